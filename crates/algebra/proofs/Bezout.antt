@@ -1,0 +1,74 @@
+-- The greatest common divisor with its cofactors, in any commutative ring where Euclid's step can be made.
+use mathlib.Core.Path.{_≡_, refl, sym, _∙_, ap, ap₂, subst, fun-ext}
+use mathlib.Core.List.{List, [], _∷_}
+use Rattle.algebra.proofs.Ring.{CRing, by1, by2}
+use Rattle.algebra.proofs.Reflect.{ring!, reify}
+
+module _ {A : Type 0} (R : CRing A) where
+  open CRing R using (add as _+_, mul as _*_, neg as -_, nil as 𝟘, one as 𝟙)
+
+  infixl 60 _+_
+  infixl 70 _*_
+  infix 75 -_
+  pub record Bezout (a b : A) : Type 0 where
+    pub g : A
+    pub u : A
+    pub v : A
+    pub a′ : A
+    pub b′ : A
+    pub comb : g ≡ a * u + b * v
+    pub div-a : a ≡ g * a′
+    pub div-b : b ≡ g * b′
+
+  pub bez-nil : (a : A) → Bezout a 𝟘
+  bez-nil a = record {
+    g = a;
+    u = 𝟙;
+    v = 𝟘;
+    a′ = 𝟙;
+    b′ = 𝟘;
+    comb = ring! R (a ∷ []) (search reify depth 20) tt;
+    div-a = ring! R (a ∷ []) (search reify depth 20) tt;
+    div-b = ring! R (a ∷ []) (search reify depth 20) tt;
+  }
+
+  -- a = b q + r
+  pub bez-step : (a b q r : A) → a ≡ b * q + r → Bezout b r → Bezout a b
+  bez-step a b q r e z = record {
+    g = z .g;
+    u = z .v;
+    v = z .u + - (q * z .v);
+    a′ = z .a′ * q + z .b′;
+    b′ = z .a′;
+    comb = by2 R 𝟙 (z .comb) (- z .v) e (ring! R (a ∷ b ∷ q ∷ r ∷ z .g ∷ z .u ∷ z .v ∷ []) (search reify depth 20) tt);
+    div-a = e ∙ by2 R q (z .div-a) 𝟙 (z .div-b) (ring! R (b ∷ q ∷ r ∷ z .g ∷ z .a′ ∷ z .b′ ∷ []) (search reify depth 20) tt);
+    div-b = z .div-a;
+  }
+
+  -- Euclid's lemma: where a and b have no common divisor but units, a divides b c only if it divides c
+  pub coprime-divides : (a b c u v d : A) → a * u + b * v ≡ 𝟙 → b * c ≡ a * d → c ≡ a * (u * c + v * d)
+  coprime-divides a b c u v d e f = by2 R (- c) e v f (ring! R (a ∷ b ∷ c ∷ u ∷ v ∷ d ∷ []) (search reify depth 20) tt)
+
+  pub bez-neg-l : (a b : A) → Bezout a b → Bezout (- a) b
+  bez-neg-l a b z = record {
+    g = z .g;
+    u = - z .u;
+    v = z .v;
+    a′ = - z .a′;
+    b′ = z .b′;
+    comb = by1 R 𝟙 (z .comb) (ring! R (a ∷ b ∷ z .g ∷ z .u ∷ z .v ∷ []) (search reify depth 30 fits 20000) tt);
+    div-a = by1 R (- 𝟙) (z .div-a) (ring! R (a ∷ z .g ∷ z .a′ ∷ []) (search reify depth 30 fits 20000) tt);
+    div-b = z .div-b;
+  }
+
+  pub bez-swap : (a b : A) → Bezout a b → Bezout b a
+  bez-swap a b z = record {
+    g = z .g;
+    u = z .v;
+    v = z .u;
+    a′ = z .b′;
+    b′ = z .a′;
+    comb = by1 R 𝟙 (z .comb) (ring! R (a ∷ b ∷ z .g ∷ z .u ∷ z .v ∷ []) (search reify depth 30 fits 20000) tt);
+    div-a = z .div-b;
+    div-b = z .div-a;
+  }

@@ -1,0 +1,17 @@
+pub mod Ring
+pub mod Whole
+pub mod Solver
+pub mod Reflect
+pub mod Fraction
+pub mod Rational
+pub mod Series
+pub mod Poly
+pub mod Division
+pub mod Bezout
+pub mod WholeGcd
+pub mod Euclid
+pub mod Lowest
+pub mod Derivative
+pub mod Canon
+pub mod Roots
+pub mod Degree

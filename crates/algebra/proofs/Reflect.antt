@@ -1,0 +1,63 @@
+-- Reification by `search`: the expression of a term is found, not written.
+use mathlib.Core.Path.{_≡_, refl, sym, _∙_, ap, ap₂, subst}
+use mathlib.Core.List.{List, [], _∷_}
+use mathlib.Core.Bool.{Bool}
+use Prim.Native.Nat.{ℕ, zero, suc}
+use lib.Dec.{T}
+use Rattle.algebra.proofs.Ring.{CRing}
+use Rattle.algebra.proofs.Ring as RL
+use Rattle.algebra.proofs.Solver.{Expr, var, nil, unit, _⊕_, _⊖_, _⊗_, ⊝_, _≗_, holds, look, eval, solve}
+
+-- i-th element of a list
+pub data At {A : Type 0} (x : A) : List A → Type 0 where
+  here : {ρ : List A} → At x (x ∷ ρ)
+  there : {y : A} {ρ : List A} → At x ρ → At x (y ∷ ρ)
+
+abbrev pub index : {A : Type 0} {x : A} {ρ : List A} → At x ρ → ℕ
+index here = zero
+index (there p) = suc (index p)
+
+module _ {A : Type 0} (R : CRing A) where
+  open CRing R using (add as _+_, mul as _*_, neg as -_, nil as 𝟘, one as 𝟙)
+
+  infixl 60 _+_
+  infixl 70 _*_
+  infix 75 -_
+  pub data Rep (ρ : List A) : A → Type 0 where
+    rep-add : {a b : A} → Rep ρ a → Rep ρ b → Rep ρ (a + b)
+    rep-mul : {a b : A} → Rep ρ a → Rep ρ b → Rep ρ (a * b)
+    rep-neg : {a : A} → Rep ρ a → Rep ρ (- a)
+    rep-nil : Rep ρ 𝟘
+    rep-one : Rep ρ 𝟙
+    rep-at : {a : A} → At a ρ → Rep ρ a
+
+  abbrev pub code : {ρ : List A} {a : A} → Rep ρ a → Expr
+  code (rep-add x y) = code x ⊕ code y
+  code (rep-mul x y) = code x ⊗ code y
+  code (rep-neg x) = ⊝ code x
+  code rep-nil = nil
+  code rep-one = unit
+  code (rep-at p) = var (index p)
+
+  look-at : {ρ : List A} {a : A} (p : At a ρ) → look R ρ (index p) ≡ a
+  look-at here = refl
+  look-at (there p) = look-at p
+
+  code-is : {ρ : List A} {a : A} (r : Rep ρ a) → eval R ρ (code r) ≡ a
+  code-is (rep-add x y) = ap₂ _+_ (code-is x) (code-is y)
+  code-is (rep-mul x y) = ap₂ _*_ (code-is x) (code-is y)
+  code-is (rep-neg x) = ap -_ (code-is x)
+  code-is rep-nil = refl
+  code-is rep-one = refl
+  code-is (rep-at p) = look-at p
+
+  pub data Both (ρ : List A) (a b : A) : Type 0 where
+    both : Rep ρ a → Rep ρ b → Both ρ a b
+
+  abbrev pub same : {ρ : List A} {a b : A} → Both ρ a b → Bool
+  same (both x y) = holds (code x ≗ code y)
+
+  pub ring! : (ρ : List A) {a b : A} (x : Both ρ a b) → T (same x) → a ≡ b
+  ring! ρ (both x y) t = sym (code-is x) ∙ solve R ρ (code x) (code y) t ∙ code-is y
+
+pub ruleset reify = (both, rep-add, rep-mul, rep-neg, rep-nil, rep-one, rep-at, here, there)

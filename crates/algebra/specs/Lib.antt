@@ -1,0 +1,3 @@
+pub mod Rational
+pub mod Polynomial
+pub mod Textbook

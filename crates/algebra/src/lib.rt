@@ -1,0 +1,1 @@
+// Theory only: the definitions are in specs/, the theorems in proofs/. No function stands here.
