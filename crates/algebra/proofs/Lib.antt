@@ -2,6 +2,7 @@ pub mod Ring
 pub mod Whole
 pub mod Solver
 pub mod Reflect
+pub mod Examples
 pub mod Fraction
 pub mod Rational
 pub mod Series
