@@ -2,6 +2,7 @@
 use mathlib.Core.Path.{_≡_, refl, sym, _∙_, ap, ap₂, subst, fun-ext}
 use mathlib.Core.List.{List, [], _∷_}
 use Rattle.algebra.proofs.Ring.{CRing, by1, by2}
+use Rattle.algebra.proofs.Divides.{Dvd, dvd-comb}
 use Rattle.algebra.proofs.Reflect.{ring!, reify}
 
 module _ {A : Type 0} (R : CRing A) where
@@ -20,6 +21,10 @@ module _ {A : Type 0} (R : CRing A) where
     pub div-a : a ≡ g * a′
     pub div-b : b ≡ g * b′
 
+  -- each common divisor divides it
+  pub bez-greatest : (a b : A) (z : Bezout a b) (k : A) → Dvd R k a → Dvd R k b → Dvd R k (z .g)
+  bez-greatest a b z k d e = let (l, f) = dvd-comb R k a b (z .u) (z .v) d e in (l, z .comb ∙ f)
+
   pub bez-nil : (a : A) → Bezout a 𝟘
   bez-nil a = record {
     g = a;
@@ -27,9 +32,9 @@ module _ {A : Type 0} (R : CRing A) where
     v = 𝟘;
     a′ = 𝟙;
     b′ = 𝟘;
-    comb = ring! R (a ∷ []) (search reify depth 20) tt;
-    div-a = ring! R (a ∷ []) (search reify depth 20) tt;
-    div-b = ring! R (a ∷ []) (search reify depth 20) tt;
+    comb = ring! R (a ∷ []) (search reify depth 30 fits 20000) tt;
+    div-a = ring! R (a ∷ []) (search reify depth 30 fits 20000) tt;
+    div-b = ring! R (a ∷ []) (search reify depth 30 fits 20000) tt;
   }
 
   -- a = b q + r
@@ -40,14 +45,14 @@ module _ {A : Type 0} (R : CRing A) where
     v = z .u + - (q * z .v);
     a′ = z .a′ * q + z .b′;
     b′ = z .a′;
-    comb = by2 R 𝟙 (z .comb) (- z .v) e (ring! R (a ∷ b ∷ q ∷ r ∷ z .g ∷ z .u ∷ z .v ∷ []) (search reify depth 20) tt);
-    div-a = e ∙ by2 R q (z .div-a) 𝟙 (z .div-b) (ring! R (b ∷ q ∷ r ∷ z .g ∷ z .a′ ∷ z .b′ ∷ []) (search reify depth 20) tt);
+    comb = by2 R 𝟙 (z .comb) (- z .v) e (ring! R (a ∷ b ∷ q ∷ r ∷ z .g ∷ z .u ∷ z .v ∷ []) (search reify depth 30 fits 20000) tt);
+    div-a = e ∙ by2 R q (z .div-a) 𝟙 (z .div-b) (ring! R (b ∷ q ∷ r ∷ z .g ∷ z .a′ ∷ z .b′ ∷ []) (search reify depth 30 fits 20000) tt);
     div-b = z .div-a;
   }
 
   -- Euclid's lemma: where a and b have no common divisor but units, a divides b c only if it divides c
   pub coprime-divides : (a b c u v d : A) → a * u + b * v ≡ 𝟙 → b * c ≡ a * d → c ≡ a * (u * c + v * d)
-  coprime-divides a b c u v d e f = by2 R (- c) e v f (ring! R (a ∷ b ∷ c ∷ u ∷ v ∷ d ∷ []) (search reify depth 20) tt)
+  coprime-divides a b c u v d e f = by2 R (- c) e v f (ring! R (a ∷ b ∷ c ∷ u ∷ v ∷ d ∷ []) (search reify depth 30 fits 20000) tt)
 
   pub bez-neg-l : (a b : A) → Bezout a b → Bezout (- a) b
   bez-neg-l a b z = record {

@@ -2,12 +2,14 @@ pub mod Ring
 pub mod Whole
 pub mod Solver
 pub mod Reflect
+pub mod WholeNumerals
 pub mod Examples
 pub mod Fraction
 pub mod Rational
 pub mod Series
 pub mod Poly
 pub mod Division
+pub mod Divides
 pub mod Bezout
 pub mod WholeGcd
 pub mod Euclid

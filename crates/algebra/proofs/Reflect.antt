@@ -26,6 +26,11 @@ module _ {A : Type 0} (R : CRing A) where
   infixl 60 _+_
   infixl 70 _*_
   infix 75 -_
+  -- an element with a closed expression, such as a numeral of one ring in particular
+  pub record Closed (a : A) : Type 0 where
+    pub expr : Expr
+    pub value : (ρ : List A) → eval R ρ expr ≡ a
+
   pub data Rep (ρ : List A) : A → Type 0 where
     rep-add : {a b : A} → Rep ρ a → Rep ρ b → Rep ρ (a + b)
     rep-mul : {a b : A} → Rep ρ a → Rep ρ b → Rep ρ (a * b)
@@ -34,6 +39,7 @@ module _ {A : Type 0} (R : CRing A) where
     rep-one : Rep ρ 𝟙
     rep-nat : (k : ℕ) → T (literal k) → Rep ρ (nat R k)
     rep-pow : {a : A} (k : ℕ) → T (literal k) → Rep ρ a → Rep ρ (pow R a k)
+    rep-closed : {a : A} → Closed a → Rep ρ a
     rep-at : {a : A} → At a ρ → Rep ρ a
 
   abbrev pub code : {ρ : List A} {a : A} → Rep ρ a → Expr
@@ -44,6 +50,7 @@ module _ {A : Type 0} (R : CRing A) where
   code rep-one = unit
   code (rep-nat k t) = num k
   code (rep-pow k t x) = code x ⊛ k
+  code (rep-closed c) = c .expr
   code (rep-at p) = var (index p)
 
   look-at : {ρ : List A} {a : A} (p : At a ρ) → look R ρ (index p) ≡ a
@@ -58,6 +65,7 @@ module _ {A : Type 0} (R : CRing A) where
   code-is rep-one = refl
   code-is (rep-nat k t) = refl
   code-is (rep-pow k t x) = ap (λ t. pow R t k) (code-is x)
+  code-is {ρ} (rep-closed c) = c .value ρ
   code-is (rep-at p) = look-at p
 
   pub data Both (ρ : List A) (a b : A) : Type 0 where
