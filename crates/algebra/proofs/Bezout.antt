@@ -21,6 +21,12 @@ module _ {A : Type 0} (R : CRing A) where
     pub div-a : a ≡ g * a′
     pub div-b : b ≡ g * b′
 
+  pub bez-dvd-l : (a b : A) (z : Bezout a b) → Dvd R (z .g) a
+  bez-dvd-l a b z = (z .a′, z .div-a ∙ R .mul-comm (z .g) (z .a′))
+
+  pub bez-dvd-r : (a b : A) (z : Bezout a b) → Dvd R (z .g) b
+  bez-dvd-r a b z = (z .b′, z .div-b ∙ R .mul-comm (z .g) (z .b′))
+
   -- each common divisor divides it
   pub bez-greatest : (a b : A) (z : Bezout a b) (k : A) → Dvd R k a → Dvd R k b → Dvd R k (z .g)
   bez-greatest a b z k d e = let (l, f) = dvd-comb R k a b (z .u) (z .v) d e in (l, z .comb ∙ f)

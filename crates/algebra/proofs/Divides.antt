@@ -33,6 +33,9 @@ module _ {A : Type 0} (R : CRing A) where
   pub dvd-neg : (a b : A) → Dvd a b → Dvd a (- b)
   dvd-neg a b (k, e) = (- k, by1 R (- 𝟙) e (ring! R (a ∷ b ∷ k ∷ []) (search reify depth 30 fits 20000) tt))
 
+  pub neg-dvd : (a b : A) → Dvd a b → Dvd (- a) b
+  neg-dvd a b (k, e) = (- k, by1 R 𝟙 e (ring! R (a ∷ b ∷ k ∷ []) (search reify depth 30 fits 20000) tt))
+
   pub dvd-mul-r : (a b c : A) → Dvd a b → Dvd a (b * c)
   dvd-mul-r a b c (k, e) = (c * k, by1 R c e (ring! R (a ∷ b ∷ c ∷ k ∷ []) (search reify depth 30 fits 20000) tt))
 

@@ -1,5 +1,6 @@
 pub mod Ring
 pub mod Whole
+pub mod WholeOrder
 pub mod Solver
 pub mod Reflect
 pub mod WholeNumerals
@@ -12,6 +13,8 @@ pub mod Division
 pub mod Divides
 pub mod Bezout
 pub mod WholeGcd
+pub mod WholeDivision
+pub mod WholeDivides
 pub mod Euclid
 pub mod Lowest
 pub mod Derivative

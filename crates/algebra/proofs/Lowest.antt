@@ -9,17 +9,7 @@ use lib.IntN.{ℤ, pos, negsuc, negℤ, _+ℤ_, _*ℤ_, natAbs, *ℤ-comm}
 use Rattle.algebra.proofs.Ring.{CRing, by1, by2}
 use Rattle.algebra.proofs.Reflect.{ring!, reify}
 use Rattle.algebra.proofs.Bezout.{coprime-divides}
-use Rattle.algebra.proofs.Whole.{ℤ-ring, mul-cancel, pos-ne}
-
-abs-neg : (n : ℕ) → natAbs (negℤ (pos n)) ≡ n
-abs-neg zero = refl
-abs-neg (suc n) = refl
-
-pub abs-mul : (a b : ℤ) → natAbs (a *ℤ b) ≡ natAbs a * natAbs b
-abs-mul (pos a) (pos b) = refl
-abs-mul (pos a) (negsuc b) = abs-neg (a * suc b)
-abs-mul (negsuc a) (pos b) = abs-neg (suc a * b)
-abs-mul (negsuc a) (negsuc b) = refl
+use Rattle.algebra.proofs.Whole.{ℤ-ring, mul-cancel, pos-ne, abs-mul}
 
 unfoldable pub Coprime : ℤ → ℤ → Type 0
 Coprime a b = (u : ℤ) × (v : ℤ) × (a *ℤ u +ℤ b *ℤ v ≡ pos 1)
