@@ -1,8 +1,9 @@
 -- The greatest common divisor with its cofactors, in any commutative ring where Euclid's step can be made.
-use mathlib.Core.Path.{_≡_, refl, sym, _∙_, ap, ap₂, subst, fun-ext}
+use mathlib.Core.Path.{_≡_, refl, sym, _∙_, ap}
+use mathlib.Core.Logic.{_≢_}
 use mathlib.Core.List.{List, [], _∷_}
-use Rattle.algebra.proofs.Ring.{CRing, by1, by2}
-use Rattle.algebra.proofs.Divides.{Dvd, dvd-comb}
+use Rattle.algebra.proofs.Ring.{CRing, Domain, by1, by2, by3}
+use Rattle.algebra.proofs.Divides.{Dvd, dvd-comb, Coprime}
 use Rattle.algebra.proofs.Reflect.{ring!, reify}
 
 module _ {A : Type 0} (R : CRing A) where
@@ -30,6 +31,14 @@ module _ {A : Type 0} (R : CRing A) where
   -- each common divisor divides it
   pub bez-greatest : (a b : A) (z : Bezout a b) (k : A) → Dvd R k a → Dvd R k b → Dvd R k (z .g)
   bez-greatest a b z k d e = let (l, f) = dvd-comb R k a b (z .u) (z .v) d e in (l, z .comb ∙ f)
+
+  -- the cofactors stand in the proportion of a and b
+  pub bez-cross : (a b : A) (z : Bezout a b) → z .a′ * b ≡ a * z .b′
+  bez-cross a b z = by2 R (z .a′) (z .div-b) (- z .b′) (z .div-a) (ring! R (a ∷ b ∷ z .g ∷ z .a′ ∷ z .b′ ∷ []) (search reify depth 30 fits 20000) tt)
+
+  cofactors : (a b : A) (z : Bezout a b) → (z .a′ * z .u + z .b′ * z .v) * z .g ≡ 𝟙 * z .g
+  cofactors a b z = by3 R (- 𝟙) (z .comb) (- z .u) (z .div-a) (- z .v) (z .div-b)
+      (ring! R (a ∷ b ∷ z .g ∷ z .u ∷ z .v ∷ z .a′ ∷ z .b′ ∷ []) (search reify depth 30 fits 20000) tt)
 
   pub bez-nil : (a : A) → Bezout a 𝟘
   bez-nil a = record {
@@ -83,3 +92,7 @@ module _ {A : Type 0} (R : CRing A) where
     div-a = z .div-b;
     div-b = z .div-a;
   }
+
+-- in a domain the cofactors are coprime
+pub bez-coprime : {A : Type 0} (D : Domain A) (a b : A) (z : Bezout (D .ring) a b) → z .g ≢ D .ring .nil → Coprime (D .ring) (z .a′) (z .b′)
+bez-coprime D a b z h = (z .u, z .v, D .cancel _ _ (z .g) h (cofactors (D .ring) a b z))

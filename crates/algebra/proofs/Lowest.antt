@@ -1,32 +1,55 @@
--- A fraction in lowest terms with a positive denominator is the only one of its class.
-use mathlib.Core.Path.{_≡_, refl, sym, _∙_, ap, ap₂, subst}
+-- Lowest terms: numerator and denominator have no common divisor but 1. Each pair is equal, by cross products, to exactly one such.
+use mathlib.Core.Path.{_≡_, refl, sym, _∙_, ap, subst}
 use mathlib.Core.Logic.{_≢_}
-use mathlib.Core.List.{List, [], _∷_}
-use Prim.Native.Nat.{ℕ, zero, suc, _+_, _*_, _≤_, _<_, _∣_}
-use native.Mathlib.Omega.{arith}
+use mathlib.Core.HLevel.{isProp→PathP}
+use Prim.Native.Nat.{ℕ, zero, suc, _<_, _∣_}
+use native.Mathlib.Bridge.{le-prop}
 use native.Mathlib.Nat.{dvd-antisymm}
-use lib.IntN.{ℤ, pos, negsuc, negℤ, _+ℤ_, _*ℤ_, natAbs, *ℤ-comm}
-use Rattle.algebra.proofs.Ring.{CRing, by1, by2}
-use Rattle.algebra.proofs.Reflect.{ring!, reify}
-use Rattle.algebra.proofs.Bezout.{coprime-divides}
-use Rattle.algebra.proofs.Whole.{ℤ-ring, mul-cancel, pos-ne, abs-mul}
+use lib.IntN.{ℤ, pos, negsuc, negℤ, _*ℤ_, natAbs, *ℤ-comm, *ℤ-zero, zero-*ℤ}
+use Rattle.algebra.specs.Rational.{Rat, Same, over}
+use Rattle.algebra.proofs.Divides.{coprime-dvd, coprime-sym}
+use Rattle.algebra.proofs.Bezout.{Bezout, bez-cross, bez-coprime}
+use Rattle.algebra.proofs.Whole.{ℤ-ring, ℤ-domain, mul-cancel, abs-neg}
+use Rattle.algebra.proofs.WholeGcd.{bezout}
+use Rattle.algebra.proofs.WholeDivides.{OnlyOne, dvd-abs, coprime-only-one, only-one-coprime}
+use Rattle.algebra.proofs.Fraction.{fr-eq}
+use Rattle.algebra.proofs.Rational.{val, val-over, val-fr, den-ne, same-val, same-sym}
 
-unfoldable pub Coprime : ℤ → ℤ → Type 0
-Coprime a b = (u : ℤ) × (v : ℤ) × (a *ℤ u +ℤ b *ℤ v ≡ pos 1)
+abbrev pub LowestTerms : Rat → Type 0
+LowestTerms x = OnlyOne (natAbs (x .num)) (x .den)
+
+pub rat-path : (x y : Rat) → x .num ≡ y .num → x .den ≡ y .den → x ≡ y
+rat-path x y e f = λ i. record { num = e i; den = f i; above-zero = isProp→PathP (λ j. 0 < f j) (λ j. le-prop) (x .above-zero) (y .above-zero) i }
 
 -- a denominator divides the other
-half : (n n′ : ℤ) (d d′ : ℕ) → Coprime n (pos d) → n *ℤ pos d′ ≡ n′ *ℤ pos d → (k : ℕ) × (d′ ≡ d * k)
-unfolding Coprime
-half n n′ d d′ (u, v, c) e = (
-  natAbs (v *ℤ pos d′ +ℤ u *ℤ n′),
-  ap natAbs (coprime-divides ℤ-ring (pos d) n (pos d′) v u n′
-      (by1 ℤ-ring (pos 1) c (ring! ℤ-ring (n ∷ pos d ∷ u ∷ v ∷ []) (search reify depth 20) tt))
-      (by1 ℤ-ring (pos 1) e (ring! ℤ-ring (n ∷ n′ ∷ pos d ∷ pos d′ ∷ []) (search reify depth 20) tt)))
-      ∙ abs-mul (pos d) (v *ℤ pos d′ +ℤ u *ℤ n′),
-)
+half : (x y : Rat) → LowestTerms x → Same x y → x .den ∣ y .den
+half x y l e = dvd-abs (pos (x .den)) (pos (y .den))
+    (coprime-dvd ℤ-ring (pos (x .den)) (x .num) (pos (y .den))
+    (coprime-sym ℤ-ring (x .num) (pos (x .den)) (only-one-coprime (x .num) (pos (x .den)) l))
+    (y .num, *ℤ-comm (pos (y .den)) (x .num) ∙ e))
 
-pub lowest : (n n′ : ℤ) (d d′ : ℕ) → 0 < d → Coprime n (pos d) → Coprime n′ (pos d′) → n *ℤ pos d′ ≡ n′ *ℤ pos d → (d ≡ d′) × (n ≡ n′)
-lowest n n′ zero d′ h c c′ e = absurd (omega arith)
-lowest n n′ (suc d) d′ h c c′ e =
-    let same : suc d ≡ d′ = dvd-antisymm (∣ half n n′ (suc d) d′ c e ∣₁) (∣ half n′ n d′ (suc d) c′ (sym e) ∣₁) in
-    (same, mul-cancel n n′ (pos (suc d)) (pos-ne d) (ap (λ k. n *ℤ pos k) same ∙ e))
+pub lowest-unique : (x y : Rat) → LowestTerms x → LowestTerms y → Same x y → x ≡ y
+lowest-unique x y l m e =
+    let f : x .den ≡ y .den = dvd-antisymm (half x y l e) (half y x m (same-sym x y e)) in
+    rat-path x y (mul-cancel (x .num) (y .num) (pos (x .den)) (den-ne x) (ap (λ k. x .num *ℤ pos k) f ∙ e)) f
+
+lowest-over : (a b : ℤ) → b ≢ pos 0 → OnlyOne (natAbs a) (natAbs b) → LowestTerms (over a b)
+lowest-over a (pos zero) h l = absurd (h refl)
+lowest-over a (pos (suc b)) h l = l
+lowest-over a (negsuc b) h l = subst (λ k. OnlyOne k (suc b)) (sym (abs-neg a)) l
+
+pub reduce : (x : Rat) → (y : Rat) × LowestTerms y × Same y x
+reduce x = (
+  over (z .a′) (z .b′),
+  lowest-over (z .a′) (z .b′) b≠0 (coprime-only-one (z .a′) (z .b′) (bez-coprime ℤ-domain (x .num) (pos (x .den)) z g≠0)),
+  same-val (over (z .a′) (z .b′)) x (val-over (z .a′) (z .b′) b≠0 ∙ fr-eq ℤ-domain (z .a′) (z .b′) (x .num) (pos (x .den)) b≠0 (den-ne x) (bez-cross ℤ-ring (x .num) (pos (x .den)) z) ∙ sym (val-fr x)),
+)
+  where
+    z : Bezout ℤ-ring (x .num) (pos (x .den))
+    z = bezout (x .num) (pos (x .den))
+
+    b≠0 : z .b′ ≢ pos 0
+    b≠0 e = den-ne x (z .div-b ∙ ap (λ t. z .g *ℤ t) e ∙ *ℤ-zero (z .g))
+
+    g≠0 : z .g ≢ pos 0
+    g≠0 e = den-ne x (z .div-b ∙ ap (λ t. t *ℤ z .b′) e ∙ zero-*ℤ (z .b′))

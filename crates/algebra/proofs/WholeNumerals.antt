@@ -1,11 +1,11 @@
 -- Whole numbers as numerals: the image of a natural number is itself, and the ring solver reads literals (`reifyℤ` for `reify`).
 use mathlib.Core.Path.{_≡_, refl, sym, _∙_, ap}
 use mathlib.Core.List.{List, [], _∷_}
-use Prim.Native.Nat.{ℕ, zero, suc}
+use Prim.Native.Nat.{ℕ, zero, suc, _^_}
 use native.Mathlib.Numerals.{add-one}
 use lib.Dec.{T}
 use lib.IntN.{ℤ, pos, negsuc, negℤ, _+ℤ_, _*ℤ_}
-use Rattle.algebra.proofs.Ring.{CRing, nat, by1}
+use Rattle.algebra.proofs.Ring.{nat, nat-pow, pow, by1}
 use Rattle.algebra.proofs.Solver.{num, ⊝_}
 use Rattle.algebra.proofs.Reflect.{ring!, reify, literal, Closed, rep-closed}
 use Rattle.algebra.proofs.Whole.{ℤ-ring}
@@ -14,6 +14,9 @@ pub nat-ℤ : (n : ℕ) → nat ℤ-ring n ≡ pos n
 unfolding nat
 nat-ℤ zero = refl
 nat-ℤ (suc n) = ap (λ z. z +ℤ pos 1) (nat-ℤ n) ∙ ap pos (add-one n)
+
+pub pow-pos : (m n : ℕ) → pow ℤ-ring (pos m) n ≡ pos (m ^ n)
+pow-pos m n = sym (ap (λ z. pow ℤ-ring z n) (nat-ℤ m)) ∙ sym (nat-pow ℤ-ring m n) ∙ nat-ℤ (m ^ n)
 
 abbrev pub pos-closed : (k : ℕ) → T (literal k) → Closed ℤ-ring (pos k)
 pos-closed k t = record { expr = num k; value = λ ρ. nat-ℤ k }
