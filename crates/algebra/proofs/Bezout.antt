@@ -1,7 +1,7 @@
 -- The greatest common divisor with its cofactors, in any commutative ring where Euclid's step can be made.
-use mathlib.Core.Path.{_≡_, refl, sym, _∙_, ap}
+use mathlib.Core.Path.{_≡_, _∙_}
 use mathlib.Core.Logic.{_≢_}
-use mathlib.Core.List.{List, [], _∷_}
+use mathlib.Core.List.{[], _∷_}
 use Rattle.algebra.proofs.Ring.{CRing, Domain, by1, by2, by3}
 use Rattle.algebra.proofs.Divides.{Dvd, dvd-comb, Coprime}
 use Rattle.algebra.proofs.Reflect.{ring!, reify}

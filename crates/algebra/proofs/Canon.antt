@@ -1,7 +1,7 @@
 -- Each rational has one pair in lowest terms: its representative.
-use mathlib.Core.Path.{_≡_, refl, sym, _∙_, ap}
+use mathlib.Core.Path.{_≡_, sym, _∙_}
 use mathlib.Core.HLevel.{Σ-prop-path, ×-prop}
-use lib.IntN.{ℤ, pos, natAbs}
+use lib.IntN.{natAbs}
 use Rattle.algebra.specs.Rational.{Rat, Same, over}
 use Rattle.algebra.proofs.Whole.{ℤ-domain}
 use Rattle.algebra.proofs.WholeDivides.{only-one-prop}

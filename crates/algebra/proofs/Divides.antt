@@ -1,8 +1,8 @@
 -- Divisibility in a commutative ring, and elements without a common divisor: some combination of the two is 1.
-use mathlib.Core.Path.{_≡_, refl, sym, _∙_, ap}
-use mathlib.Core.List.{List, [], _∷_}
+use mathlib.Core.Path.{_≡_, sym, _∙_}
+use mathlib.Core.List.{[], _∷_}
 use Prim.Native.Nat.{ℕ, zero, suc}
-use Rattle.algebra.proofs.Ring.{CRing, by1, by2, by3, pow, pow-zero, pow-suc}
+use Rattle.algebra.proofs.Ring.{CRing, by1, by2, pow, pow-zero, pow-suc}
 use Rattle.algebra.proofs.Reflect.{ring!, reify}
 
 module _ {A : Type 0} (R : CRing A) where

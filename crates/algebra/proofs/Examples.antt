@@ -1,12 +1,12 @@
 -- What the ring solver proves, by example.
-use mathlib.Core.Path.{_≡_, refl, sym, _∙_, ap, ap₂, subst}
-use mathlib.Core.List.{List, [], _∷_}
-use Prim.Native.Nat.{ℕ, zero, suc}
+use mathlib.Core.Path.{_≡_}
+use mathlib.Core.List.{[], _∷_}
+use Prim.Native.Nat.{ℕ}
 use Rattle.algebra.proofs.Ring.{CRing, nat, pow, by1, by2, by3}
 use Rattle.algebra.proofs.Reflect.{ring!, reify}
 
 module _ {A : Type 0} (R : CRing A) where
-  open CRing R using (add as _+_, mul as _*_, neg as -_, nil as 𝟘, one as 𝟙)
+  open CRing R using (add as _+_, mul as _*_, neg as -_, one as 𝟙)
 
   infixl 60 _+_
   infixl 70 _*_

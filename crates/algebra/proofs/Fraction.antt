@@ -1,8 +1,8 @@
 -- The field of fractions of an integral domain: pairs up to cross products, as a set quotient.
-use mathlib.Core.Path.{_≡_, refl, sym, _∙_, ap, ap₂, subst}
+use mathlib.Core.Path.{_≡_, refl, sym, _∙_}
 use mathlib.Core.Logic.{_≢_}
-use mathlib.Core.List.{List, [], _∷_}
-use std.Quotient.{_/_, cls, eq/, /-set, /-rec, /-rec₂, /-elim-prop, /-elim-prop₂, /-elim-prop₃, /-map, IsEquivRel, effective, /-discrete}
+use mathlib.Core.List.{[], _∷_}
+use std.Quotient.{_/_, cls, eq/, /-set, /-rec₂, /-elim-prop, /-elim-prop₂, /-elim-prop₃, /-map, IsEquivRel, effective, /-discrete}
 use Rattle.algebra.proofs.Ring.{CRing, Domain, Field, by1, by2, mul-ne, inv-prop, inv-unique}
 use mathlib.Core.HLevel.{Π-prop}
 use Rattle.algebra.proofs.Reflect.{ring!, reify}

@@ -19,5 +19,6 @@ pub mod Euclid
 pub mod Lowest
 pub mod Derivative
 pub mod Canon
+pub mod RationalOrder
 pub mod Roots
 pub mod Degree

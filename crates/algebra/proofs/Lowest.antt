@@ -2,10 +2,10 @@
 use mathlib.Core.Path.{_≡_, refl, sym, _∙_, ap, subst}
 use mathlib.Core.Logic.{_≢_}
 use mathlib.Core.HLevel.{isProp→PathP}
-use Prim.Native.Nat.{ℕ, zero, suc, _<_, _∣_}
+use Prim.Native.Nat.{zero, suc, _<_, _∣_}
 use native.Mathlib.Bridge.{le-prop}
 use native.Mathlib.Nat.{dvd-antisymm}
-use lib.IntN.{ℤ, pos, negsuc, negℤ, _*ℤ_, natAbs, *ℤ-comm, *ℤ-zero, zero-*ℤ}
+use lib.IntN.{ℤ, pos, negsuc, _*ℤ_, natAbs, *ℤ-comm, *ℤ-zero, zero-*ℤ}
 use Rattle.algebra.specs.Rational.{Rat, Same, over}
 use Rattle.algebra.proofs.Divides.{coprime-dvd, coprime-sym}
 use Rattle.algebra.proofs.Bezout.{Bezout, bez-cross, bez-coprime}
@@ -13,7 +13,7 @@ use Rattle.algebra.proofs.Whole.{ℤ-ring, ℤ-domain, mul-cancel, abs-
 use Rattle.algebra.proofs.WholeGcd.{bezout}
 use Rattle.algebra.proofs.WholeDivides.{OnlyOne, dvd-abs, coprime-only-one, only-one-coprime}
 use Rattle.algebra.proofs.Fraction.{fr-eq}
-use Rattle.algebra.proofs.Rational.{val, val-over, val-fr, den-ne, same-val, same-sym}
+use Rattle.algebra.proofs.Rational.{val-over, val-fr, den-ne, same-val, same-sym}
 
 abbrev pub LowestTerms : Rat → Type 0
 LowestTerms x = OnlyOne (natAbs (x .num)) (x .den)

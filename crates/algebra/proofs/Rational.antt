@@ -1,8 +1,8 @@
 -- The rationals: the field of fractions of the whole numbers. The pairs of specs/Rational are read in it by `val`: equal by cross products is equal here.
 use mathlib.Core.Path.{_≡_, refl, sym, _∙_, ap, ap₂}
 use mathlib.Core.Logic.{_≢_}
-use mathlib.Core.List.{List, [], _∷_}
-use Prim.Native.Nat.{ℕ, zero, suc, _*_}
+use mathlib.Core.List.{[], _∷_}
+use Prim.Native.Nat.{ℕ, zero, suc}
 use native.Mathlib.Numerals.{add-one}
 use native.Mathlib.Omega.{arith}
 use lib.IntN.{ℤ, ℤ-discrete, pos, negsuc, negℤ, _+ℤ_, _*ℤ_}

@@ -1,5 +1,5 @@
 -- A commutative ring: operations and laws in one flat record, and what every proof needs of it.
-use mathlib.Core.Path.{_≡_, refl, sym, _∙_, ap, ap₂, subst}
+use mathlib.Core.Path.{_≡_, refl, sym, _∙_, ap, ap₂}
 use mathlib.Core.Logic.{_≢_}
 use mathlib.Core.HLevel.{Σ-prop-path}
 use Prim.Native.Nat.{ℕ, zero, suc, _^_, _+_ as _+ⁿ_, _*_ as _*ⁿ_}
@@ -89,9 +89,9 @@ module _ {A : Type 0} (R : CRing A) where
   pub r-mul-assoc : (a b c : A) → a * b * c ≡ a * (b * c)
   r-mul-assoc = mul-assoc
 
--- linear combinations of equations: a − b is a multiple of l − r
+-- an equation from others: a − b is a combination of differences l − r that are 0
 module _ {A : Type 0} (R : CRing A) where
-  open CRing R using (add as _+_, mul as _*_, neg as -_, nil as 𝟘, one as 𝟙, add-neg, add-nil)
+  open CRing R using (add as _+_, mul as _*_, neg as -_, nil as 𝟘, add-neg, add-nil)
 
   infixl 60 _+_
   infixl 70 _*_
@@ -112,7 +112,7 @@ module _ {A : Type 0} (R : CRing A) where
 
 -- the image of the natural numbers, and powers
 module _ {A : Type 0} (R : CRing A) where
-  open CRing R using (add as _+_, mul as _*_, neg as -_, nil as 𝟘, one as 𝟙, add-nil, add-assoc, mul-assoc, mul-comm, mul-one, distl)
+  open CRing R using (add as _+_, mul as _*_, nil as 𝟘, one as 𝟙, add-nil, add-assoc, mul-assoc, mul-comm, mul-one, distl)
 
   infixl 60 _+_
   infixl 70 _*_
@@ -202,7 +202,7 @@ pub record Field (A : Type 0) : Type 0 where
 
 -- two inverses of one element are equal
 module _ {A : Type 0} (R : CRing A) where
-  open CRing R using (add as _+_, mul as _*_, neg as -_, nil as 𝟘, one as 𝟙, mul-one, mul-assoc, mul-comm)
+  open CRing R using (mul as _*_, one as 𝟙, mul-one, mul-assoc, mul-comm)
 
   infixl 70 _*_
   pub inv-unique : (a b c : A) → a * b ≡ 𝟙 → a * c ≡ 𝟙 → b ≡ c
@@ -213,7 +213,7 @@ module _ {A : Type 0} (R : CRing A) where
 
 -- a field is a domain
 module _ {A : Type 0} (K : Field A) where
-  open CRing (K .ring) using (add as _+_, mul as _*_, neg as -_, nil as 𝟘, one as 𝟙, mul-one, mul-assoc, mul-comm)
+  open CRing (K .ring) using (mul as _*_, nil as 𝟘, mul-one, mul-assoc)
 
   infixl 70 _*_
   pub field-cancel : (a b c : A) → c ≢ 𝟘 → a * c ≡ b * c → a ≡ b
@@ -227,7 +227,7 @@ module _ {A : Type 0} (K : Field A) where
 
 -- a domain has no zero divisors
 module _ {A : Type 0} (D : Domain A) where
-  open CRing (D .ring) using (mul as _*_, nil as 𝟘, one as 𝟙)
+  open CRing (D .ring) using (mul as _*_, nil as 𝟘)
 
   infixl 70 _*_
   pub no-zero-div : (a b : A) → a * b ≡ 𝟘 → b ≢ 𝟘 → a ≡ 𝟘

@@ -3,13 +3,12 @@ use mathlib.Core.Path.{_≡_, refl, sym, _∙_, ap, ap₂, subst}
 use mathlib.Core.Bool.{Bool, true, false}
 use mathlib.Core.List.{List, [], _∷_}
 use Prim.Native.Nat.{ℕ, zero, suc, compare, Ordering, Ordering·lt, Ordering·eq, Ordering·gt}
-use Prim.Native.Nat.{_+_ as _+ⁿ_, _*_ as _*ⁿ_}
-use native.Mathlib.Nat as NL
+use Prim.Native.Nat.{_+_ as _+ⁿ_}
 use lib.Dec.{T, isEq, eqb→eq}
 use lib.IntN.{ℤ, pos, negsuc, negℤ, _+ℤ_, _*ℤ_}
 use Rattle.algebra.proofs.Ring as RL
 use Rattle.algebra.proofs.Ring.{CRing}
-use Rattle.algebra.proofs.Whole.{up, dn, up-pos, dn-pos, up-neg, dn-neg, add-is, mul-is, neg-is}
+use Rattle.algebra.proofs.Whole.{up, dn, add-is, mul-is, neg-is}
 
 infixl 60 _⊕_
 infixl 60 _⊖_
@@ -122,7 +121,7 @@ cmp-eq (a ∷ m) [] e = absurd (subst IsEq (sym e) tt)
 cmp-eq (a ∷ m) (b ∷ n) e = cmp-eq-go a b m n (cmp-eq m n) (compare a b) refl e
 
 module _ {A : Type 0} (R : CRing A) where
-  open CRing R using (add as _+_, mul as _*_, neg as -_, nil as 𝟘, one as 𝟙, add-assoc, add-comm, add-nil, add-neg, mul-assoc, mul-comm, mul-one, distl)
+  open CRing R using (add as _+_, mul as _*_, neg as -_, nil as 𝟘, one as 𝟙, add-assoc, add-comm, add-nil, add-neg, mul-one, distl)
 
   infixl 60 _+_
   infixl 70 _*_

@@ -1,5 +1,5 @@
 -- The ring laws of lib.IntN's ℤ, by reading each integer as a difference up − down of naturals.
-use mathlib.Core.Path.{_≡_, refl, sym, _∙_, ap, ap₂, subst}
+use mathlib.Core.Path.{_≡_, refl, ap}
 use mathlib.Core.Bool.{Bool, true, false, not, cond}
 use Prim.Native.Nat.{ℕ, zero, suc, _+_, _*_, _-_, _<_, _≤_}
 use native.Mathlib.Omega.{arith}
@@ -7,7 +7,7 @@ use lib.Dec.{T, ltb, ltb→lt, nltb→le}
 use native.Mathlib.Nat.{eq-of-mul-eq-mul-right}
 use mathlib.Core.Logic.{_≢_, _⊎_, inl, inr}
 use Rattle.algebra.proofs.Ring.{CRing, Domain}
-use lib.IntN.{ℤ, ℤ-set, ℤ-discrete, pos, negsuc, negℤ, subℕ, _+ℤ_, _-ℤ_, _*ℤ_, natAbs, +ℤ-assoc, +ℤ-comm, +ℤ-idl, +ℤ-idr, +ℤ-invr, *ℤ-comm, *ℤ-one, zero-*ℤ}
+use lib.IntN.{ℤ, ℤ-set, ℤ-discrete, pos, negsuc, negℤ, subℕ, _+ℤ_, _*ℤ_, natAbs, +ℤ-assoc, +ℤ-comm, +ℤ-idr, +ℤ-invr, *ℤ-comm, *ℤ-one}
 
 unfoldable pub up : ℤ → ℕ
 up (pos n) = n
@@ -16,22 +16,6 @@ up (negsuc n) = 0
 unfoldable pub dn : ℤ → ℕ
 dn (pos n) = 0
 dn (negsuc n) = suc n
-
-pub up-pos : (n : ℕ) → up (pos n) ≡ n
-unfolding up
-up-pos n = refl
-
-pub dn-pos : (n : ℕ) → dn (pos n) ≡ 0
-unfolding dn
-dn-pos n = refl
-
-pub up-neg : (n : ℕ) → up (negsuc n) ≡ 0
-unfolding up
-up-neg n = refl
-
-pub dn-neg : (n : ℕ) → dn (negsuc n) ≡ suc n
-unfolding dn
-dn-neg n = refl
 
 pub ext : (z w : ℤ) → up z + dn w ≡ up w + dn z → z ≡ w
 unfolding up dn

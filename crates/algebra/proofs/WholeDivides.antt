@@ -1,11 +1,10 @@
 -- Divisibility of whole numbers: the same as that of their sizes; and coprime numbers are those with no common divisor but 1.
-use mathlib.Core.Path.{_≡_, refl, sym, _∙_, ap, ap₂, subst}
+use mathlib.Core.Path.{_≡_, sym, _∙_, ap, subst}
 use mathlib.Core.HLevel.{Π-prop, →-prop}
-use mathlib.Core.List.{List, [], _∷_}
-use Prim.Native.Nat.{ℕ, zero, suc, _*_, _/_, _∣_}
-use native.Mathlib.Omega.{arith}
+use mathlib.Core.List.{[], _∷_}
+use Prim.Native.Nat.{ℕ, suc, _*_, _/_, _∣_}
 use native.Mathlib.Nat.{ℕ-set, dvd-mul-left, eq-one-of-dvd-one, div-mul-cancel}
-use lib.IntN.{ℤ, pos, negsuc, negℤ, _+ℤ_, _*ℤ_, natAbs}
+use lib.IntN.{ℤ, pos, negsuc, _*ℤ_, natAbs}
 use Rattle.algebra.proofs.Ring.{CRing, by2, pow}
 use Rattle.algebra.proofs.Reflect.{ring!, reify}
 use Rattle.algebra.proofs.Divides.{Dvd, Coprime, coprime-unit, coprime-pow, dvd-neg, neg-dvd}

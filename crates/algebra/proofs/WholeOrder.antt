@@ -1,22 +1,22 @@
 -- The order of the whole numbers: products by a positive number, sums, and the three cases.
-use mathlib.Core.Path.{_≡_, refl, sym, _∙_, ap, subst}
-use mathlib.Core.Bool.{Bool, true, false}
-use Prim.Native.Nat.{ℕ, zero, suc, _+_, _*_, _<_, _≤_}
+use mathlib.Core.Path.{_≡_, sym, subst}
+use mathlib.Core.Bool.{true, false}
+use Prim.Native.Nat.{ℕ, _+_, _<_}
 use native.Mathlib.Omega.{arith}
 use native.Mathlib.Nat.{mul-lt-mul-of-pos-right, lt-of-mul-lt-mul-right}
 use native.Mathlib.Decide.{decLt}
-use lib.Dec.{T, ltb, ltb→lt, lt→ltb}
+use lib.Dec.{T, ltb→lt, lt→ltb}
 use lib.IntN.{ℤ, pos, negsuc, negℤ, _+ℤ_, _*ℤ_}
 use lib.Signed.{ltZ, _<ℤ_}
 use Rattle.algebra.proofs.Whole.{up, dn, ext, add-is, mul-is, neg-is}
 
--- exactly one of three
+-- one of three cases
 pub data Three (L E G : Type 0) : Type 0 where
   less : L → Three L E G
   same : E → Three L E G
   more : G → Three L E G
 
--- read as an order of naturals
+-- the order, read on the naturals up and dn
 pub lt-up : (a b : ℤ) → a <ℤ b → up a + dn b < up b + dn a
 unfolding up dn
 lt-up (pos a) (pos b) h = omega (arith, ltb→lt a b (h .lt))
