@@ -15,7 +15,7 @@ module _ {A : Type 0} (R : CRing A) where
   numerals : nat R 2 * nat R 3 ≡ nat R 6
   numerals = ring! R [] (search reify depth 30 fits 20000) tt
 
-  large : (a : A) → nat R 100 * a + nat R 23 * a ≡ a * nat R 123
+  large : (a : A) → nat R 100000 * a + nat R 23 * a ≡ a * nat R 100023
   large a = ring! R (a ∷ []) (search reify depth 30 fits 20000) tt
 
   -- powers

@@ -3,11 +3,11 @@ use mathlib.Core.Path.{_≡_, refl, sym, _∙_, ap, ap₂}
 use mathlib.Core.List.{List, _∷_}
 use mathlib.Core.Bool.{Bool}
 use Prim.Native.Nat.{ℕ, zero, suc}
-use lib.Dec.{T, leb}
+use lib.Dec.{T, eqb}
 use Rattle.algebra.proofs.Ring.{CRing, nat, pow}
 use Rattle.algebra.proofs.Solver.{Expr, var, nil, unit, num, _⊕_, _⊖_, _⊗_, ⊝_, _⊛_, nf, isEnd, look, eval, solve}
 
--- i-th element of a list
+-- x is an element of the list
 pub data At {A : Type 0} (x : A) : List A → Type 0 where
   here : {ρ : List A} → At x (x ∷ ρ)
   there : {y : A} {ρ : List A} → At x ρ → At x (y ∷ ρ)
@@ -18,7 +18,7 @@ index (there p) = suc (index p)
 
 -- a test that computes at literals alone
 abbrev pub literal : ℕ → Bool
-literal k = leb k 1000
+literal k = eqb k k
 
 module _ {A : Type 0} (R : CRing A) where
   open CRing R using (add as _+_, mul as _*_, neg as -_, nil as 𝟘, one as 𝟙)
@@ -31,6 +31,7 @@ module _ {A : Type 0} (R : CRing A) where
     pub expr : Expr
     pub value : (ρ : List A) → eval R ρ expr ≡ a
 
+  -- how a term is built from the atoms ρ
   pub data Rep (ρ : List A) : A → Type 0 where
     rep-add : {a b : A} → Rep ρ a → Rep ρ b → Rep ρ (a + b)
     rep-mul : {a b : A} → Rep ρ a → Rep ρ b → Rep ρ (a * b)
@@ -74,6 +75,7 @@ module _ {A : Type 0} (R : CRing A) where
   abbrev pub same : {ρ : List A} {a b : A} → Both ρ a b → Bool
   same (both x y) = isEnd (nf (code x ⊖ code y))
 
+  -- the solver: `ring! R (a ∷ b ∷ []) (search reify depth 30 fits 20000) tt`, where a and b are the atoms
   pub ring! : (ρ : List A) {a b : A} (x : Both ρ a b) → T (same x) → a ≡ b
   ring! ρ (both x y) t = sym (code-is x) ∙ solve R ρ (code x) (code y) t ∙ code-is y
 

@@ -10,6 +10,7 @@ use Rattle.algebra.proofs.Ring as RL
 use Rattle.algebra.proofs.Ring.{CRing}
 use Rattle.algebra.proofs.Whole.{up, dn, add-is, mul-is, neg-is}
 
+-- variable 0, 1, ..; 0; 1; a numeral; sum, difference, product, negative, power
 infixl 60 _⊕_
 infixl 60 _⊖_
 infixl 70 _⊗_
@@ -126,9 +127,6 @@ module _ {A : Type 0} (R : CRing A) where
   infixl 60 _+_
   infixl 70 _*_
   infix 75 -_
-  abbrev pub sub : A → A → A
-  sub a b = a + - b
-
   abbrev pub look : List A → ℕ → A
   look [] i = 𝟙
   look (a ∷ ρ) zero = a
