@@ -15,6 +15,7 @@ pub mod Bezout
 pub mod WholeGcd
 pub mod WholeDivision
 pub mod WholeDivides
+pub mod NaturalGcd
 pub mod Euclid
 pub mod Lowest
 pub mod Derivative

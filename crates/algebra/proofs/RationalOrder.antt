@@ -2,12 +2,12 @@
 use mathlib.Core.Path.{_≡_, refl, sym, subst₂}
 use mathlib.Core.List.{[], _∷_}
 use lib.IntN.{ℤ, pos, _*ℤ_}
-use lib.Signed.{_<ℤ_}
+use lib.Signed.{_<ℤ_, <ℤ-irrefl}
 use Rattle.algebra.specs.Rational.{Rat, Same, Less}
 use Rattle.algebra.proofs.Ring.{CRing, by1}
 use Rattle.algebra.proofs.Reflect.{ring!, reify}
 use Rattle.algebra.proofs.Whole.{ℤ-ring}
-use Rattle.algebra.proofs.WholeOrder.{Three, compareℤ, <ℤ-irrefl, <ℤ-trans, <ℤ-mul, <ℤ-cancel}
+use Rattle.algebra.proofs.WholeOrder.{Three, less, same, more, compareℤ, <ℤ-trans, <ℤ-mul, <ℤ-cancel}
 
 module _ {A : Type 0} (R : CRing A) where
   open CRing R using (mul as _*_)
@@ -37,8 +37,9 @@ less-same-r x y y′ e h =
     (subst₂ _<ℤ_ (exchange ℤ-ring (x .num) d d′) (exchange-by ℤ-ring (y .num) d (y′ .num) d′ b e)
     (<ℤ-mul (x .num *ℤ d) (y .num *ℤ b) (y′ .den) (y′ .above-zero) h))
 
+-- at most one of the three
 pub less-irrefl : (x y : Rat) → Same x y → Less x y → ⊥
-less-irrefl x y e h = <ℤ-irrefl (x .num *ℤ pos (x .den)) (less-same-r x y x (sym e) h)
+less-irrefl x y e h = <ℤ-irrefl (less-same-r x y x (sym e) h)
 
 pub less-trans : (x y z : Rat) → Less x y → Less y z → Less x z
 less-trans x y z h k =
@@ -54,5 +55,14 @@ less-trans x y z h k =
 pub less-asym : (x y : Rat) → Less x y → Less y x → ⊥
 less-asym x y h k = less-irrefl x x refl (less-trans x y x h k)
 
+-- at least one
 pub compareQ : (x y : Rat) → Three (Less x y) (Same x y) (Less y x)
 compareQ x y = compareℤ (x .num *ℤ pos (y .den)) (y .num *ℤ pos (x .den))
+
+pub less-dec : (x y : Rat) → Dec (Less x y)
+less-dec x y = go (compareQ x y)
+  where
+    go : Three (Less x y) (Same x y) (Less y x) → Dec (Less x y)
+    go (less h) = yes h
+    go (same e) = no (less-irrefl x y e)
+    go (more h) = no (λ k. less-asym x y k h)

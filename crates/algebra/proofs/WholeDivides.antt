@@ -36,6 +36,9 @@ OnlyOne m n = (k : ℕ) → k ∣ m → k ∣ n → k ≡ 1
 pub only-one-prop : (m n : ℕ) → IsProp (OnlyOne m n)
 only-one-prop m n = Π-prop (λ k. →-prop (→-prop (ℕ-set k 1)))
 
+pub only-one-sym : (m n : ℕ) → OnlyOne m n → OnlyOne n m
+only-one-sym m n h k d e = h k e d
+
 pub coprime-only-one : (a b : ℤ) → Coprimeℤ a b → OnlyOne (natAbs a) (natAbs b)
 coprime-only-one a b h k d e = eq-one-of-dvd-one (dvd-abs (pos k) (pos 1) (coprime-unit ℤ-ring a b (pos k) h (abs-dvd (pos k) a d) (abs-dvd (pos k) b e)))
 

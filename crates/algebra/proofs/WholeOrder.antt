@@ -31,9 +31,6 @@ up-lt (pos a) (negsuc b) h = absurd (omega arith)
 up-lt (negsuc a) (pos b) h = record { lt = tt }
 up-lt (negsuc a) (negsuc b) h = record { lt = lt→ltb b a (omega arith) }
 
-pub <ℤ-irrefl : (a : ℤ) → a <ℤ a → ⊥
-<ℤ-irrefl a h = omega (arith, lt-up a a h)
-
 pub <ℤ-trans : (a b c : ℤ) → a <ℤ b → b <ℤ c → a <ℤ c
 <ℤ-trans a b c h k = up-lt a c (omega (arith, lt-up a b h, lt-up b c k))
 
@@ -52,6 +49,7 @@ pub <ℤ-cancel : (a b : ℤ) (n : ℕ) → (a *ℤ pos n) <ℤ (b *ℤ pos n) �
 unfolding up dn
 <ℤ-cancel a b n h = up-lt a b (lt-of-mul-lt-mul-right n (omega (arith, lt-up (a *ℤ pos n) (b *ℤ pos n) h, mul-is a (pos n), mul-is b (pos n))))
 
+-- (no number is below itself: `<ℤ-irrefl` of lib.Signed)
 pub compareℤ : (a b : ℤ) → Three (a <ℤ b) (a ≡ b) (b <ℤ a)
 compareℤ a b = go (decLt (up a + dn b) (up b + dn a)) (decLt (up b + dn a) (up a + dn b))
   where
