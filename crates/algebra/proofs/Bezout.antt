@@ -32,10 +32,6 @@ module _ {A : Type 0} (R : CRing A) where
   pub bez-greatest : (a b : A) (z : Bezout a b) (k : A) → Dvd R k a → Dvd R k b → Dvd R k (z .g)
   bez-greatest a b z k d e = let (l, f) = dvd-comb R k a b (z .u) (z .v) d e in (l, z .comb ∙ f)
 
-  -- the cofactors stand in the proportion of a and b
-  pub bez-cross : (a b : A) (z : Bezout a b) → z .a′ * b ≡ a * z .b′
-  bez-cross a b z = by2 R (z .a′) (z .div-b) (- z .b′) (z .div-a) (ring! R (a ∷ b ∷ z .g ∷ z .a′ ∷ z .b′ ∷ []) (search reify depth 30 fits 20000) tt)
-
   cofactors : (a b : A) (z : Bezout a b) → (z .a′ * z .u + z .b′ * z .v) * z .g ≡ 𝟙 * z .g
   cofactors a b z = by3 R (- 𝟙) (z .comb) (- z .u) (z .div-a) (- z .v) (z .div-b)
       (ring! R (a ∷ b ∷ z .g ∷ z .u ∷ z .v ∷ z .a′ ∷ z .b′ ∷ []) (search reify depth 30 fits 20000) tt)

@@ -37,3 +37,6 @@ val-rep x = low x .1 .1
 
 pub rep-val : (r : Rat) → Same (rep (val r)) r
 rep-val r = same-val (rep (val r)) r (val-rep (val r))
+
+pub rep-fixed : (r : Rat) → LowestTerms r → rep (val r) ≡ r
+rep-fixed r l = lowest-unique (rep (val r)) r (rep-lowest (val r)) l (rep-val r)

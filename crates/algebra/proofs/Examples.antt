@@ -4,6 +4,7 @@ use mathlib.Core.List.{[], _∷_}
 use Prim.Native.Nat.{ℕ}
 use Rattle.algebra.proofs.Ring.{CRing, nat, pow, by1, by2, by3}
 use Rattle.algebra.proofs.Reflect.{ring!, reify}
+use Rattle.algebra.proofs.Rational.{ℚ, ℚ-ring, _+ℚ_, _*ℚ_, 1ℚ}
 
 module _ {A : Type 0} (R : CRing A) where
   open CRing R using (add as _+_, mul as _*_, neg as -_, one as 𝟙)
@@ -43,3 +44,7 @@ module _ {A : Type 0} (R : CRing A) where
 
   three : (x y z s t u : A) → x + y ≡ s → y + z ≡ t → z + x ≡ u → nat R 2 * (x + y + z) ≡ s + t + u
   three x y z s t u e f g = by3 R 𝟙 e 𝟙 f 𝟙 g (ring! R (x ∷ y ∷ z ∷ s ∷ t ∷ u ∷ []) (search reify depth 30 fits 20000) tt)
+
+-- at the rationals
+halves : (a h : ℚ) → nat ℚ-ring 2 *ℚ h ≡ 1ℚ → a *ℚ h +ℚ a *ℚ h ≡ a
+halves a h e = by1 ℚ-ring a e (ring! ℚ-ring (a ∷ h ∷ []) (search reify depth 30 fits 20000) tt)
