@@ -188,16 +188,13 @@ fn reduce(n: i64, d: i64) -> Ratio
     requires { ⌜ Fraction (record { num = n; den = d }) ⌝ }
     ensures { λ r. ⌜ r ≡ lowest n d ⌝ }
 {
-    let g = gcd(magnitude(n), magnitude(d)) as i64;
-    let num = n / g;
-    let den = d / g;
-    if den < 0 {
-        Ratio {
-            num: -num,
-            den: -den,
-        }
-    } else {
-        Ratio { num, den }
+    let m = magnitude(n);
+    let k = magnitude(d);
+    let g = gcd(m, k);
+    let num = signed(is_neg(n) != is_neg(d), m / g);
+    Ratio {
+        num,
+        den: signed(false, k / g),
     }
 }
 

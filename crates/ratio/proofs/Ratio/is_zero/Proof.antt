@@ -1,0 +1,12 @@
+-- `ratio::Ratio::is_zero` meets its contract.
+use Rattle.ratio.proofs.Words.{nil-test}
+use Rattle.ratio.proofs.Ratio.is_zero.Statement.{statement}
+use Rattle.ratio.proofs.Ratio.is_zero.Tie as tie
+use Rattle.ratio.proofs.Ratio.is_zero.Reads as reads
+use Rattle.ratio.proofs.Ratio.is_zero.Lts as lts
+
+returns : tie.Need-returns
+returns c = ?
+
+pub is-zero-spec : {M : Type 1} → statement M
+is-zero-spec = tie.close (tie.spec returns)
