@@ -99,6 +99,11 @@ nil-test (negsuc n) f = let h : n < 2 ^ 63 = f .sfits in ne-eqb (2 ^ 64 - suc n)
 
 -- ---- the size of a number
 
+pub size-above : (x : ℤ) → (x ≡ pos 0 → ⊥) → 0 < natAbs x
+size-above (pos zero) h = absurd (h refl)
+size-above (pos (suc n)) h = omega arith
+size-above (negsuc n) h = omega arith
+
 pub least-size : (x : ℤ) → SFits w64 x → ofZ w64 x ≡ least → least ≡ natAbs x
 least-size x f e = sym (least-abs x f e)
 
@@ -143,3 +148,17 @@ size-neg-back m h = rw (size-back m h, neg-sum (pos m)) (back (negℤ (pos m)) (
 
 pub signed-back : (t : Bool) (m : ℕ) → m ≤ limit → toZ w64 (ofZ w64 (signed t m)) ≡ signed t m
 signed-back t m h = back (signed t m) (signed-within t m h)
+
+pub signed-read : (r : ℤ) (t : Bool) (m : ℕ) → r ≡ signed t m → m ≤ limit → toZ w64 (ofZ w64 r) ≡ signed t m
+signed-read r t m e h = rw e (signed-back t m h)
+
+-- ---- what a test of a copied number told
+
+pub copied-within : (x : ℤ) (s t : Bool) → SFits w64 x → s ≡ within (toZ w64 (ofZ w64 x)) → s ≡ t → within x ≡ t
+copied-within x s t f e p = ap within (sym (toZ-ofZ f)) ∙ sym e ∙ p
+
+pub copied-neg : (x : ℤ) (s : Bool) → SFits w64 x → s ≡ ltZ (toZ w64 (ofZ w64 x)) (pos 0) → s ≡ ltZ x (pos 0)
+copied-neg x s f e = e ∙ ap (λ (z : ℤ). ltZ z (pos 0)) (toZ-ofZ f)
+
+pub copied-size : (x : ℤ) (m : ℕ) → SFits w64 x → m ≡ natAbs (toZ w64 (ofZ w64 x)) → m ≡ natAbs x
+copied-size x m f e = e ∙ ap natAbs (toZ-ofZ f)

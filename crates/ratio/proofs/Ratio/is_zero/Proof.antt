@@ -6,7 +6,7 @@ use Rattle.ratio.proofs.Ratio.is_zero.Reads as reads
 use Rattle.ratio.proofs.Ratio.is_zero.Lts as lts
 
 returns : tie.Need-returns
-returns c = ?
+returns c = nil-test (c .before .before .args .self .num) (record { sfits = c .struct-told .given .0 .1 })
 
 pub is-zero-spec : {M : Type 1} → statement M
 is-zero-spec = tie.close (tie.spec returns)
