@@ -107,3 +107,17 @@ told z p q =
 
 pub told-over : (z : ℤ) → wholeOf z ≡ Over → within z ≡ false
 told-over z q = picked-over (within z) z refl q
+
+-- ---- answers of the calls, said of the numbers themselves
+
+pub mul-answer : (x y : ℤ) (r : Whole) → Within x → Within y → r ≡ wholeOf (toZ w64 (ofZ w64 x) *ℤ toZ w64 (ofZ w64 y)) → r ≡ wholeOf (x *ℤ y)
+mul-answer x y r hx hy e = e ∙ ap₂ (λ (u v : ℤ). wholeOf (u *ℤ v)) (back x hx) (back y hy)
+
+pub add-answer : (x y p q : ℤ) (r : Whole) → Told x p → Told y q → r ≡ wholeOf (toZ w64 (ofZ w64 p) +ℤ toZ w64 (ofZ w64 q)) → r ≡ wholeOf (x +ℤ y)
+add-answer x y p q r tx ty e = e ∙ ap₂ (λ (u v : ℤ). wholeOf (u +ℤ v)) (tx .read) (ty .read)
+
+pub within-copied : (z : ℤ) → Within z → Within (toZ w64 (ofZ w64 z))
+within-copied z h = rw (back z h) h
+
+pub within-told : (z p : ℤ) → Told z p → Within (toZ w64 (ofZ w64 p))
+within-told z p t = rw (t .read) (t .fit)
