@@ -5,7 +5,7 @@ use Prim.Native.Nat.{ℕ, zero, suc, _≤_, _<_, _*_}
 use native.Mathlib.Omega.{arith}
 use borrow.Author.Tests.{leb-true, eqb-true, eqb-false, le-leb, ne-eqb, eq-eqb, not-true}
 use lib.Dec.{leb, eqb}
-use lib.IntN.{ℤ, pos, negsuc, natAbs, _+ℤ_, _*ℤ_}
+use lib.IntN.{ℤ, pos, negsuc, negℤ, natAbs, _+ℤ_, _*ℤ_}
 use Rattle.ratio.specs.Range.{limit, Within, within}
 use Rattle.ratio.specs.Step.{isNil, isFraction, lowest, addOf, mulOf}
 use Rattle.ratio.specs.Promise.{Fraction}
@@ -14,7 +14,7 @@ use Rattle.ratio.specs.declared.Step.{Step}
 use Rattle.ratio.specs.declared.Step.the-variants.{Done, Refused}
 use Rattle.ratio.specs.declared.Reason.the-variants.{CoeffOverflow, BadInput}
 use native.Mathlib.Nat.{mul-pos}
-use Rattle.ratio.proofs.Words.{size-above}
+use Rattle.ratio.proofs.Words.{size-above, neg-within}
 use Rattle.ratio.proofs.Checked.{abs-mul, within-copied}
 use mir.Syntax.{w64}
 use mir.Val.{ofZ, toZ}
@@ -64,3 +64,11 @@ num-copied r f = within-copied (r .num) (f .num-within)
 
 pub den-copied : (r : Ratio) → Fraction r → Within (toZ w64 (ofZ w64 (r .den)))
 den-copied r f = within-copied (r .den) (f .den-within)
+
+-- ---- the negative and the inverse of a fraction
+
+pub neg-fraction : (r : Ratio) → Fraction r → Fraction (record { num = negℤ (r .num); den = r .den })
+neg-fraction r f = record { num-within = neg-within (r .num) (f .num-within); den-within = f .den-within; den-some = f .den-some }
+
+pub inv-fraction : (r : Ratio) → Fraction r → isNil (r .num) ≡ false → Fraction (record { num = r .den; den = r .num })
+inv-fraction r f h = record { num-within = f .den-within; den-within = f .num-within; den-some = nil-some (r .num) h }

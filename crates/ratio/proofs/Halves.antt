@@ -2,7 +2,7 @@
 use mathlib.Core.Path.{_≡_, refl, sym, ap, ap₂, _∙_}
 use mathlib.Core.Bool.{Bool, true, false}
 use mathlib.Core.Logic.{_⊎_, inl, inr}
-use Prim.Native.Nat.{ℕ, _+_, _*_, _/_, _%_, _<_, _≤_}
+use Prim.Native.Nat.{ℕ, _+_, _*_, _/_, _%_, _<_, _≤_, _^_}
 use native.Mathlib.Nat.{mul-le-mul, div-add-mod'}
 use native.Mathlib.Omega.{arith}
 use borrow.Author.Tests.{le-leb, lt-leb, leb-true, leb-false}
@@ -44,3 +44,12 @@ product-is n m p = picked-is (leb n limit) n m refl p
 
 pub product-over : (n : ℕ) → productOf n ≡ TooLarge → limit < n
 product-over n p = picked-over (leb n limit) n refl p
+
+-- ---- the whole product, in two words
+
+pub wide-is : (ah al bh bl : ℕ) → (ah * bh + (ah * bl + al * bh + al * bl / 4294967296) / 4294967296) * 2 ^ 64 + ((ah * bl + al * bh + al * bl / 4294967296) % 4294967296 * 4294967296 + al * bl % 4294967296) ≡ (ah * 4294967296 + al) * (bh * 4294967296 + bl)
+wide-is ah al bh bl = omega arith
+
+-- the upper word with its carry fits
+pub carry : (p m : ℕ) → p ≤ 4611686014132420609 → m < 2 ^ 64 → p + m / 4294967296 < 2 ^ 64
+carry p m hp hm = omega arith

@@ -4,4 +4,5 @@ pub mod Euclid
 pub mod Checked
 pub mod Fractions
 pub mod Models
+pub mod Compared
 pub mod Answers

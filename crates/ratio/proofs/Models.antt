@@ -1,9 +1,12 @@
 -- What the models answer along their tests.
-use mathlib.Core.Path.{_≡_}
+use mathlib.Core.Path.{_≡_, refl, sym, ap, _∙_}
 use mathlib.Core.Bool.{Bool, true, false, not}
 use lib.IntN.{ℤ, negℤ, _+ℤ_, _*ℤ_}
+use Rattle.ratio.proofs.Words.{abs-neg}
+use Rattle.algebra.proofs.Ring.{neg-mul}
+use Rattle.algebra.proofs.Whole.{ℤ-ring}
 use Rattle.ratio.specs.Range.{within}
-use Rattle.ratio.specs.Step.{isNil, isFraction, lowest, newOf, addOf, mulOf, negOf, invOf}
+use Rattle.ratio.specs.Step.{isNil, isFraction, lowest, newOf, addOf, subOf, mulOf, negOf, invOf}
 use Rattle.ratio.specs.declared.Ratio.{Ratio}
 use Rattle.ratio.specs.declared.Step.{Step}
 use Rattle.ratio.specs.declared.Step.the-variants.{Done, Refused}
@@ -89,3 +92,17 @@ module _ (n d : ℤ) where
   pub new-yes : isFraction (record { num = n; den = d }) ≡ true → Done (lowest n d) ≡ newOf n d
   unfolding newOf
   new-yes h = rw h
+
+-- ---- a difference is the sum with the negative
+
+sub-no-by : (a b : Ratio) (s : Bool) → isFraction a ≡ s → within (b .num) ≡ false → Refused BadInput ≡ subOf a b
+unfolding subOf
+sub-no-by a b true e h = rw (e, h)
+sub-no-by a b false e h = rw e
+
+pub sub-no : (a b : Ratio) → within (b .num) ≡ false → Refused BadInput ≡ subOf a b
+sub-no a b h = sub-no-by a b (isFraction a) refl h
+
+pub sub-is-add : (a b : Ratio) → addOf a (record { num = negℤ (b .num); den = b .den }) ≡ subOf a b
+unfolding addOf subOf
+sub-is-add a b = rw (abs-neg (b .num), neg-mul ℤ-ring (b .num) (a .den), abs-neg (b .num *ℤ a .den))

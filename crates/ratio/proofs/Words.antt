@@ -49,6 +49,12 @@ beq-false true false e q = let z : _≡_ {A = ℕ} 0 1 = cc in omega arith
 beq-false false true e q = let z : _≡_ {A = ℕ} 0 1 = cc in omega arith
 beq-false false false e q = let z : _≡_ {A = ℕ} 0 1 = cc in omega arith
 
+pub beq-not : (t u : Bool) → not (Bool·beq t u) ≡ true → not t ≡ u
+beq-not true true e = e
+beq-not true false e = refl
+beq-not false true e = refl
+beq-not false false e = sym e
+
 -- ---- numbers within the range are read back from their bits
 
 pub fits : (z : ℤ) → Within z → SFits w64 z
@@ -162,3 +168,9 @@ copied-neg x s f e = e ∙ ap (λ (z : ℤ). ltZ z (pos 0)) (toZ-ofZ f)
 
 pub copied-size : (x : ℤ) (m : ℕ) → SFits w64 x → m ≡ natAbs (toZ w64 (ofZ w64 x)) → m ≡ natAbs x
 copied-size x m f e = e ∙ ap natAbs (toZ-ofZ f)
+
+pub nil-bits : (x : ℤ) → SFits w64 x → ofZ w64 x ≡ 0 → isNil x ≡ true
+nil-bits x f e = sym (nil-test x f) ∙ eq-eqb (ofZ w64 x) 0 e
+
+pub some-bits : (x : ℤ) → SFits w64 x → (ofZ w64 x ≡ 0 → ⊥) → isNil x ≡ false
+some-bits x f h = sym (nil-test x f) ∙ ne-eqb (ofZ w64 x) 0 h

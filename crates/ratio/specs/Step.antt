@@ -89,19 +89,21 @@ invOf a = need (isFraction a) BadInput (need (not (isNil (a .num))) DivByZero (D
 abbrev pub facing : ℤ → ℤ → ℤ
 facing n d = signed (differ (ltZ n (pos 0)) (ltZ d (pos 0))) (natAbs n)
 
-abbrev pub orderOf : Bool → Bool → Order
-orderOf true more = Less
-orderOf false true = Greater
-orderOf false false = Equal
+abbrev pub pickOrder : Bool → Bool → Order
+pickOrder true more = Less
+pickOrder false true = Greater
+pickOrder false false = Equal
+
+-- the order of two whole numbers
+abbrev pub orderOf : ℤ → ℤ → Order
+orderOf x y = pickOrder (ltZ x y) (ltZ y x)
 
 -- by cross products with the denominators' sizes
 unfoldable pub cmpOf : Ratio → Ratio → Order
 cmpOf a b =
     needOrder (isFraction a) BadInput
     (needOrder (isFraction b) BadInput
-    (orderOf
-    (ltZ (facing (a .num) (a .den) *ℤ pos (natAbs (b .den))) (facing (b .num) (b .den) *ℤ pos (natAbs (a .den))))
-    (ltZ (facing (b .num) (b .den) *ℤ pos (natAbs (a .den))) (facing (a .num) (a .den) *ℤ pos (natAbs (b .den))))))
+    (orderOf (facing (a .num) (a .den) *ℤ pos (natAbs (b .den))) (facing (b .num) (b .den) *ℤ pos (natAbs (a .den)))))
 
 -- lowest terms with the denominator above zero
 abbrev pub isLowest : Ratio → Bool

@@ -1,15 +1,16 @@
 // Fractions and their checked steps (document 01, module 1; the original's src/poly/mod.rs).
 // Every step takes any pair of numbers: what is no fraction within the range is refused with 5.
 ghost use mathlib.Core.Path.{_≡_};
-ghost use lib.Dec.{ltb};
-ghost use Prim.Native.Nat.{_*_, _+_, _^_, _<_, _≤_};
+ghost use mathlib.Core.Bool.{not};
+ghost use lib.Dec.{eqb};
+ghost use Prim.Native.Nat.{_*_, _≤_};
 ghost use lib.IntN.{pos, natAbs, negℤ, _+ℤ_, _*ℤ_};
 ghost use lib.Signed.{ltZ};
 ghost use Rattle.algebra.specs.Rational.{addQ, subQ, mulQ, negQ, over};
 ghost use Rattle.ratio.specs.Range.{limit, Within, within};
 ghost use Rattle.ratio.specs.Gcd.{gcdOf, IsGcd};
-ghost use Rattle.ratio.specs.Number.{productOf, wholeOf};
-ghost use Rattle.ratio.specs.Step.{isNil, isFraction, orderOf, isLowest, signed as signedOf, lowest, newOf, addOf, subOf, mulOf, negOf, invOf, cmpOf};
+ghost use Rattle.ratio.specs.Number.{productOf, wholeOf, wide};
+ghost use Rattle.ratio.specs.Step.{isNil, isFraction, differ, orderOf, isLowest, signed as signedOf, lowest, newOf, addOf, subOf, mulOf, negOf, invOf, cmpOf};
 ghost use Rattle.ratio.specs.Promise.{rat, Fraction, Lowest, AddFits, SubFits, MulFits, InvFits, Answers, Orders, Tells};
 
 // Why something is refused. `specs/Refusal.antt` gives each reason document 01's number.
@@ -333,7 +334,7 @@ struct Wide {
 // Multiplied by hand in base 2^32.
 fn wide_product(a: u64, b: u64) -> Wide
     requires { ⌜ (a ≤ limit) × (b ≤ limit) ⌝ }
-    ensures { λ r. ⌜ (r .high * 2 ^ 64 + r .low ≡ a * b) × (r .low < 2 ^ 64) ⌝ }
+    ensures { λ r. ⌜ wide r ≡ a * b ⌝ }
 {
     let ah = a / 4294967296;
     let al = a % 4294967296;
@@ -348,7 +349,7 @@ fn wide_product(a: u64, b: u64) -> Wide
 }
 
 fn compare_wide(x: Wide, y: Wide) -> Order
-    ensures { λ r. ⌜ r ≡ orderOf (ltb (x .high * 2 ^ 64 + x .low) (y .high * 2 ^ 64 + y .low)) (ltb (y .high * 2 ^ 64 + y .low) (x .high * 2 ^ 64 + x .low)) ⌝ }
+    ensures { λ r. ⌜ r ≡ orderOf (pos (wide x)) (pos (wide y)) ⌝ }
 {
     if x.high < y.high {
         Order::Less
@@ -363,18 +364,36 @@ fn compare_wide(x: Wide, y: Wide) -> Order
     }
 }
 
+fn is_nothing(x: Wide) -> bool
+    ensures { λ r. ⌜ r ≡ eqb (wide x) 0 ⌝ }
+{
+    if x.high == 0 { x.low == 0 } else { false }
+}
+
 // The order of -x and y, or of x and -y where `below` is false.
-fn apart(below: bool, x: Wide, y: Wide) -> Order {
-    if x.high == 0 {
-        if x.low == 0 {
-            if y.high == 0 {
-                if y.low == 0 {
-                    return Order::Equal;
-                }
-            }
+fn apart(below: bool, x: Wide, y: Wide) -> Order
+    ensures { λ r. ⌜ r ≡ orderOf (signedOf below (wide x)) (signedOf (not below) (wide y)) ⌝ }
+{
+    if is_nothing(x) {
+        if is_nothing(y) {
+            return Order::Equal;
         }
     }
     if below { Order::Less } else { Order::Greater }
+}
+
+// The cross product of a's numerator and b's denominator, without signs.
+fn cross(a: Ratio, b: Ratio) -> Wide
+    requires { ⌜ Within (a .num) × Within (b .den) ⌝ }
+    ensures { λ r. ⌜ wide r ≡ natAbs (a .num) * natAbs (b .den) ⌝ }
+{
+    wide_product(magnitude(a.num), magnitude(b.den))
+}
+
+fn is_below(r: Ratio) -> bool
+    ensures { λ t. ⌜ t ≡ differ (ltZ (r .num) (pos 0)) (ltZ (r .den) (pos 0)) ⌝ }
+{
+    is_neg(r.num) != is_neg(r.den)
 }
 
 // The exact order of two fractions, by cross products of any size.
@@ -388,10 +407,10 @@ pub fn compare(a: Ratio, b: Ratio) -> Order
     if !is_fraction(b) {
         return Order::Unordered(Reason::BadInput);
     }
-    let x = wide_product(magnitude(a.num), magnitude(b.den));
-    let y = wide_product(magnitude(b.num), magnitude(a.den));
-    let below = is_neg(a.num) != is_neg(a.den);
-    if below != (is_neg(b.num) != is_neg(b.den)) {
+    let x = cross(a, b);
+    let y = cross(b, a);
+    let below = is_below(a);
+    if below != is_below(b) {
         return apart(below, x, y);
     }
     if below {

@@ -50,7 +50,7 @@ add-s : tie.Need-add-s
 add-s c = omega (arith, parts (c .before))
 
 returns : tie.Need-returns
-returns c = 
+returns c =
     let m = c .before .before in
     let s = m .before .before .before .before in
     let q = parts m in
@@ -61,7 +61,7 @@ signed-requires : tie.Need-signed-requires
 signed-requires c κs = search needs
 
 returns-2 : tie.Need-returns-2
-returns-2 c = 
+returns-2 c =
     let m = c .before .before .before in
     let s = m .before .before .before .before in
     let q = parts m in
@@ -80,28 +80,28 @@ signed-requires-3 : tie.Need-signed-requires-3
 signed-requires-3 c κs = omega (arith, parts (c .before .before))
 
 returns-3 : tie.Need-returns-3
-returns-3 c = 
+returns-3 c =
     let m = c .before .before .before in
     let s = m .before .before .before .before in
     let q = parts m in
     let t = m .before .is-neg .result in
     let u = m .is-neg2 .result in
     let e : S.signed t (m .before .before .before .magnitude .result - m .before .before .magnitude2 .result) ≡ s .args .x +ℤ s .args .y =
-        ap (S.signed t) (ap₂ _-_ (q .mx) (q .my))
-        ∙ add-differ (s .args .x) (s .args .y) t u (q .nx) (q .ny) (beq-false t u (c .before .before .if1 .left)) (omega (arith, q)) in
+    ap (S.signed t) (ap₂ _-_ (q .mx) (q .my))
+    ∙ add-differ (s .args .x) (s .args .y) t u (q .nx) (q .ny) (beq-false t u (c .before .before .if1 .left)) (omega (arith, q)) in
     whole-made _ (s .args .x +ℤ s .args .y) t _ (c .signed2 .ensures) (omega (arith, q)) (sym (abs-signed t _) ∙ ap natAbs e) e
 
 returns-4 : tie.Need-returns-4
-returns-4 c = 
+returns-4 c =
     let m = c .before .before .before in
     let s = m .before .before .before .before in
     let q = parts m in
     let t = m .before .is-neg .result in
     let u = m .is-neg2 .result in
     let e : S.signed u (m .before .before .magnitude2 .result - m .before .before .before .magnitude .result) ≡ s .args .x +ℤ s .args .y =
-        ap (S.signed u) (ap₂ _-_ (q .my) (q .mx))
-        ∙ add-differ (s .args .y) (s .args .x) u t (q .ny) (q .nx) (λ w. beq-false t u (c .before .before .if1 .left) (sym w)) (omega (arith, q))
-        ∙ +ℤ-comm (s .args .y) (s .args .x) in
+    ap (S.signed u) (ap₂ _-_ (q .my) (q .mx))
+    ∙ add-differ (s .args .y) (s .args .x) u t (q .ny) (q .nx) (λ w. beq-false t u (c .before .before .if1 .left) (sym w)) (omega (arith, q))
+    ∙ +ℤ-comm (s .args .y) (s .args .x) in
     whole-made _ (s .args .x +ℤ s .args .y) u _ (c .signed3 .ensures) (omega (arith, q)) (sym (abs-signed u _) ∙ ap natAbs e) e
 
 pub add-whole-spec : {M : Type 1} → statement M

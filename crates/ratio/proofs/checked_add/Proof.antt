@@ -25,7 +25,7 @@ is-fraction-requires : tie.Need-is-fraction-requires
 is-fraction-requires c κs = search needs
 
 returns : tie.Need-returns
-returns c = 
+returns c =
     let s = c .before .before in
     add-both (s .args .a) (s .args .b) _ (add-no-a (s .args .a) (s .args .b) (sym (c .before .is-fraction .ensures) ∙ not-true _ (c .if1 .taken)))
 
@@ -49,12 +49,12 @@ is-b : (c : tie.Else2) → Fraction (start c .args .b)
 is-b c = fraction-of _ (fb c)
 
 returns-2 : tie.Need-returns-2
-returns-2 c = 
+returns-2 c =
     let s = c .before .before .before .before in
     add-both (s .args .a) (s .args .b) _ (add-no-b (s .args .a) (s .args .b) (fa (c .before .before)) (sym (c .before .is-fraction2 .ensures) ∙ not-true _ (c .if2 .taken)))
 
 mul-whole-requires : tie.Need-mul-whole-requires
-mul-whole-requires c κs = 
+mul-whole-requires c κs =
     let f = c .before .before in
     (num-copied (start f .args .a) (is-a f), den-copied (start f .args .b) (is-b f))
 
@@ -74,13 +74,13 @@ enum-told : tie.Need-enum-told
 enum-told c = search needs
 
 returns-3 : tie.Need-returns-3
-returns-3 c = 
+returns-3 c =
     let f = at1 (c .before .before) in
     let s = start f in
     add-both (s .args .a) (s .args .b) _ (add-no-left _ _ (fa (f .before .before)) (fb f) (told-over (s .args .a .num *ℤ s .args .b .den) (sym (left (c .before .before)) ∙ c .enum-told .given .1)))
 
 mul-whole-requires-2 : tie.Need-mul-whole-requires-2
-mul-whole-requires-2 c κs = 
+mul-whole-requires-2 c κs =
     let f = at1 (c .before .before .before .before .before) in
     (num-copied (start f .args .b) (is-b f), den-copied (start f .args .a) (is-a f))
 
@@ -103,7 +103,7 @@ enum-told-2 : tie.Need-enum-told-2
 enum-told-2 c = search needs
 
 returns-4 : tie.Need-returns-4
-returns-4 c = 
+returns-4 c =
     let m = c .before .before in
     let f = at2 m in
     let s = start f in
@@ -131,14 +131,14 @@ enum-told-3 : tie.Need-enum-told-3
 enum-told-3 c = search needs
 
 returns-5 : tie.Need-returns-5
-returns-5 c = 
+returns-5 c =
     let m = c .before .before in
     let f = at3 m in
     let s = start f in
     add-both (s .args .a) (s .args .b) _ (add-no-upper _ _ (fa (f .before .before)) (fb f) (got-left (at-left (at-right m .before .before)) .test) (got-right (at-right m) .test) (told-over (s .args .a .num *ℤ s .args .b .den +ℤ s .args .b .num *ℤ s .args .a .den) (sym (upper m) ∙ c .enum-told3 .given .1)))
 
 mul-whole-requires-3 : tie.Need-mul-whole-requires-3
-mul-whole-requires-3 c κs = 
+mul-whole-requires-3 c κs =
     let f = at3 (c .before .before .before .before .before) in
     (den-copied (start f .args .a) (is-a f), den-copied (start f .args .b) (is-b f))
 
@@ -161,7 +161,7 @@ enum-told-4 : tie.Need-enum-told-4
 enum-told-4 c = search needs
 
 returns-6 : tie.Need-returns-6
-returns-6 c = 
+returns-6 c =
     let m = c .before .before in
     let f = at4 m in
     let s = start f in
@@ -169,14 +169,14 @@ returns-6 c =
     add-both (s .args .a) (s .args .b) _ (add-no-lower _ _ (fa (f .before .before)) (fb f) (got-left (at-left (at-right u .before .before)) .test) (got-right (at-right u) .test) (got-n (at-n m) .test) (told-over (s .args .a .den *ℤ s .args .b .den) (sym (lower m) ∙ c .enum-told4 .given .1)))
 
 reduce-requires : tie.Need-reduce-requires
-reduce-requires c κs = 
+reduce-requires c κs =
     let d = c .before in
     let m = d .before .before in
     let f = at4 m in
     rw ((got-n (at-n m)) .read, (got-d d) .read) (product-fraction _ _ _ (is-a f) (is-b f) ((got-n (at-n m)) .fit) ((got-d d) .fit))
 
 returns-7 : tie.Need-returns-7
-returns-7 c = 
+returns-7 c =
     let d = c .before .before in
     let m = d .before .before in
     let f = at4 m in

@@ -24,7 +24,7 @@ is-fraction-requires : tie.Need-is-fraction-requires
 is-fraction-requires c κs = search needs
 
 returns : tie.Need-returns
-returns c = 
+returns c =
     let s = c .before .before in
     mul-both (s .args .a) (s .args .b) _ (mul-no-a (s .args .a) (s .args .b) (sym (c .before .is-fraction .ensures) ∙ not-true _ (c .if1 .taken)))
 
@@ -48,12 +48,12 @@ is-b : (c : tie.Else2) → Fraction (start c .args .b)
 is-b c = fraction-of _ (fb c)
 
 returns-2 : tie.Need-returns-2
-returns-2 c = 
+returns-2 c =
     let s = c .before .before .before .before in
     mul-both (s .args .a) (s .args .b) _ (mul-no-b (s .args .a) (s .args .b) (fa (c .before .before)) (sym (c .before .is-fraction2 .ensures) ∙ not-true _ (c .if2 .taken)))
 
 mul-whole-requires : tie.Need-mul-whole-requires
-mul-whole-requires c κs = 
+mul-whole-requires c κs =
     let f = c .before .before in
     (num-copied (start f .args .a) (is-a f), num-copied (start f .args .b) (is-b f))
 
@@ -73,13 +73,13 @@ enum-told : tie.Need-enum-told
 enum-told c = search needs
 
 returns-3 : tie.Need-returns-3
-returns-3 c = 
+returns-3 c =
     let f = at1 (c .before .before) in
     let s = start f in
     mul-both (s .args .a) (s .args .b) _ (mul-no-upper _ _ (fa (f .before .before)) (fb f) (told-over (s .args .a .num *ℤ s .args .b .num) (sym (upper (c .before .before)) ∙ c .enum-told .given .1)))
 
 mul-whole-requires-2 : tie.Need-mul-whole-requires-2
-mul-whole-requires-2 c κs = 
+mul-whole-requires-2 c κs =
     let f = at1 (c .before .before .before .before .before) in
     (den-copied (start f .args .a) (is-a f), den-copied (start f .args .b) (is-b f))
 
@@ -102,21 +102,21 @@ enum-told-2 : tie.Need-enum-told-2
 enum-told-2 c = search needs
 
 returns-4 : tie.Need-returns-4
-returns-4 c = 
+returns-4 c =
     let m = c .before .before in
     let f = at2 m in
     let s = start f in
     mul-both (s .args .a) (s .args .b) _ (mul-no-lower _ _ (fa (f .before .before)) (fb f) (got-n (at-n m) .test) (told-over (s .args .a .den *ℤ s .args .b .den) (sym (lower m) ∙ c .enum-told2 .given .1)))
 
 reduce-requires : tie.Need-reduce-requires
-reduce-requires c κs = 
+reduce-requires c κs =
     let d = c .before in
     let m = d .before .before in
     let f = at2 m in
     rw ((got-n (at-n m)) .read, (got-d d) .read) (product-fraction _ _ _ (is-a f) (is-b f) ((got-n (at-n m)) .fit) ((got-d d) .fit))
 
 returns-5 : tie.Need-returns-5
-returns-5 c = 
+returns-5 c =
     let d = c .before .before in
     let m = d .before .before in
     let f = at2 m in

@@ -1,3 +1,17 @@
+-- `ratio::compare` meets its contract: by the two signs, then by the sizes of the cross products.
+use mathlib.Core.Path.{_≡_, sym, ap, ap₂, _∙_}
+use mathlib.Core.Bool.{Bool, true, false, not, Bool·beq}
+use borrow.Author.Tests.{not-true, not-false}
+use lib.IntN.{pos}
+use Rattle.ratio.specs.Number.{wide}
+use Rattle.ratio.specs.Step.{isFraction, orderOf}
+use Rattle.ratio.specs.Step as S
+use Rattle.ratio.specs.Promise.{Fraction}
+use Rattle.ratio.specs.declared.Order.{Order}
+use Rattle.ratio.proofs.Words.{beq-true, beq-not}
+use Rattle.ratio.proofs.Fractions.{fraction-of}
+use Rattle.ratio.proofs.Compared.{order-neg, cmp-no-a, cmp-no-b, cmp-yes}
+use Rattle.ratio.proofs.Answers.{cmp-both}
 use borrow.Author.Needs.{needs}
 use Rattle.ratio.proofs.compare.Statement.{statement}
 use Rattle.ratio.proofs.compare.Tie as tie
@@ -5,90 +19,109 @@ use Rattle.ratio.proofs.compare.Reads as reads
 use Rattle.ratio.proofs.compare.Lts as lts
 use Rattle.ratio.proofs.apart.Reads as apart-reads
 use Rattle.ratio.proofs.compare_wide.Reads as compare-wide-reads
+use Rattle.ratio.proofs.cross.Reads as cross-reads
+use Rattle.ratio.proofs.is_below.Reads as is-below-reads
 use Rattle.ratio.proofs.is_fraction.Reads as is-fraction-reads
-use Rattle.ratio.proofs.is_neg.Reads as is-neg-reads
-use Rattle.ratio.proofs.magnitude.Reads as magnitude-reads
-use Rattle.ratio.proofs.wide_product.Reads as wide-product-reads
 
--- src/lib.rt:385:9
 is-fraction-requires : tie.Need-is-fraction-requires
 is-fraction-requires c κs = search needs
 
--- src/lib.rt:386:9
 returns : tie.Need-returns
-returns c = ?
+returns c =
+    let s = c .before .before in
+    cmp-both (s .args .a) (s .args .b) _ (cmp-no-a _ _ (sym (c .before .is-fraction .ensures) ∙ not-true _ (c .if1 .taken)))
 
--- src/lib.rt:388:9
 is-fraction-requires-2 : tie.Need-is-fraction-requires-2
 is-fraction-requires-2 c κs = search needs
 
--- src/lib.rt:389:9
+fa : (c : tie.Else1) → isFraction (c .before .before .args .a) ≡ true
+fa c = sym (c .before .is-fraction .ensures) ∙ not-false _ (c .if1 .left)
+
+fb : (c : tie.Else2) → isFraction (c .before .before .before .before .args .b) ≡ true
+fb c = sym (c .before .is-fraction2 .ensures) ∙ not-false _ (c .if2 .left)
+
+abbrev start : tie.Else2 → tie.Start
+start c = c .before .before .before .before
+
+is-a : (c : tie.Else2) → Fraction (start c .args .a)
+is-a c = fraction-of _ (fa (c .before .before))
+
+is-b : (c : tie.Else2) → Fraction (start c .args .b)
+is-b c = fraction-of _ (fb c)
+
 returns-2 : tie.Need-returns-2
-returns-2 c = ?
+returns-2 c =
+    let s = c .before .before .before .before in
+    cmp-both (s .args .a) (s .args .b) _ (cmp-no-b _ _ (fa (c .before .before)) (sym (c .before .is-fraction2 .ensures) ∙ not-true _ (c .if2 .taken)))
 
--- src/lib.rt:391:26
-magnitude-requires : tie.Need-magnitude-requires
-magnitude-requires c κs = search needs
+cross-requires : tie.Need-cross-requires
+cross-requires c κs = (is-a c .num-within, is-b c .den-within)
 
--- src/lib.rt:391:44
-magnitude-requires-2 : tie.Need-magnitude-requires-2
-magnitude-requires-2 c κs = search needs
+cross-requires-2 : tie.Need-cross-requires-2
+cross-requires-2 c κs = (is-b (c .before) .num-within, is-a (c .before) .den-within)
 
--- src/lib.rt:391:9
-wide-product-requires : tie.Need-wide-product-requires
-wide-product-requires c κs = ?
+is-below-requires : tie.Need-is-below-requires
+is-below-requires c κs = search needs
 
--- src/lib.rt:392:26
-magnitude-requires-3 : tie.Need-magnitude-requires-3
-magnitude-requires-3 c κs = search needs
+is-below-requires-2 : tie.Need-is-below-requires-2
+is-below-requires-2 c κs = search needs
 
--- src/lib.rt:392:44
-magnitude-requires-4 : tie.Need-magnitude-requires-4
-magnitude-requires-4 c κs = search needs
+-- the model, by what the calls answered
+model : (i : tie.After-is-below2) → orderOf (S.signed (i .before .is-below .result) (wide (i .before .before .before .cross .result))) (S.signed (i .is-below2 .result) (wide (i .before .before .cross2 .result))) ≡ S.cmpOf (start (i .before .before .before .before) .args .a) (start (i .before .before .before .before) .args .b)
+model i =
+    let e = i .before .before .before .before in
+    cmp-yes (start e .args .a) (start e .args .b) (fa (e .before .before)) (fb e) _ _ _ _ (i .before .is-below .ensures) (i .is-below2 .ensures) (i .before .before .before .cross .ensures) (i .before .before .cross2 .ensures)
 
--- src/lib.rt:392:9
-wide-product-requires-2 : tie.Need-wide-product-requires-2
-wide-product-requires-2 c κs = ?
-
--- src/lib.rt:393:17
-is-neg-requires : tie.Need-is-neg-requires
-is-neg-requires c κs = search needs
-
--- src/lib.rt:393:34
-is-neg-requires-2 : tie.Need-is-neg-requires-2
-is-neg-requires-2 c κs = search needs
-
--- src/lib.rt:394:18
-is-neg-requires-3 : tie.Need-is-neg-requires-3
-is-neg-requires-3 c κs = search needs
-
--- src/lib.rt:394:35
-is-neg-requires-4 : tie.Need-is-neg-requires-4
-is-neg-requires-4 c κs = search needs
-
--- src/lib.rt:395:9
 apart-requires : tie.Need-apart-requires
 apart-requires c κs = search needs
 
--- src/lib.rt:395:9
 returns-3 : tie.Need-returns-3
-returns-3 c = ?
+returns-3 c =
+    let i = c .before .before in
+    let e = i .before .before .before .before in
+    let s = start e in
+    let t = i .before .is-below .result in
+    let u = i .is-below2 .result in
+    cmp-both (s .args .a) (s .args .b) _
+    (c .apart .ensures
+    ∙ ap (λ (v : Bool). orderOf (S.signed t (wide (i .before .before .before .cross .result))) (S.signed v (wide (i .before .before .cross2 .result)))) (beq-not t u (c .before .if3 .taken))
+    ∙ model i)
 
--- src/lib.rt:398:9
 compare-wide-requires : tie.Need-compare-wide-requires
 compare-wide-requires c κs = search needs
 
--- src/lib.rt:400:9
 compare-wide-requires-2 : tie.Need-compare-wide-requires-2
 compare-wide-requires-2 c κs = search needs
 
--- src/lib.rt:381:1
 returns-4 : tie.Need-returns-4
-returns-4 c = ?
+returns-4 c =
+    let i = c .before .before .before in
+    let e = i .before .before .before .before in
+    let s = start e in
+    let t = i .before .is-below .result in
+    let u = i .is-below2 .result in
+    let x = wide (i .before .before .before .cross .result) in
+    let y = wide (i .before .before .cross2 .result) in
+    let same : t ≡ u = beq-true t u (not-false _ (c .before .before .if3 .left)) in
+    cmp-both (s .args .a) (s .args .b) _
+    (c .compare-wide .ensures ∙ sym (order-neg x y)
+    ∙ ap₂ (λ (v w : Bool). orderOf (S.signed v x) (S.signed w y)) (sym (c .before .if4 .taken)) (sym (c .before .if4 .taken) ∙ same)
+    ∙ model i)
 
--- src/lib.rt:381:1
 returns-5 : tie.Need-returns-5
-returns-5 c = ?
+returns-5 c =
+    let i = c .before .before .before in
+    let e = i .before .before .before .before in
+    let s = start e in
+    let t = i .before .is-below .result in
+    let u = i .is-below2 .result in
+    let x = wide (i .before .before .before .cross .result) in
+    let y = wide (i .before .before .cross2 .result) in
+    let same : t ≡ u = beq-true t u (not-false _ (c .before .before .if3 .left)) in
+    cmp-both (s .args .a) (s .args .b) _
+    (c .compare-wide2 .ensures
+    ∙ ap₂ (λ (v w : Bool). orderOf (S.signed v x) (S.signed w y)) (sym (c .before .if4 .left)) (sym (c .before .if4 .left) ∙ same)
+    ∙ model i)
 
 pub compare-spec : {M : Type 1} → statement M
 compare-spec =
@@ -98,16 +131,10 @@ compare-spec =
     returns
     is-fraction-requires-2
     returns-2
-    magnitude-requires
-    magnitude-requires-2
-    wide-product-requires
-    magnitude-requires-3
-    magnitude-requires-4
-    wide-product-requires-2
-    is-neg-requires
-    is-neg-requires-2
-    is-neg-requires-3
-    is-neg-requires-4
+    cross-requires
+    cross-requires-2
+    is-below-requires
+    is-below-requires-2
     apart-requires
     returns-3
     compare-wide-requires

@@ -23,10 +23,10 @@ gcd-requires : tie.Need-gcd-requires
 gcd-requires c κs = search needs
 
 returns : tie.Need-returns
-returns c = 
+returns c =
     let s = c .before .before .before in
     let e : c .gcd .result ≡ gcdOf (natAbs (s .args .a)) (natAbs (s .args .b)) =
-        c .gcd .ensures ∙ ap₂ gcdOf (c .before .before .magnitude .ensures ∙ ap natAbs (toZ-ofZ (s .fits .a))) (c .before .magnitude2 .ensures ∙ ap natAbs (toZ-ofZ (s .fits .b))) in
+    c .gcd .ensures ∙ ap₂ gcdOf (c .before .before .magnitude .ensures ∙ ap natAbs (toZ-ofZ (s .fits .a))) (c .before .magnitude2 .ensures ∙ ap natAbs (toZ-ofZ (s .fits .b))) in
     (e, subst (λ (g : ℕ). IsGcd (natAbs (s .args .a)) (natAbs (s .args .b)) g) (sym e) (is-gcd (natAbs (s .args .a)) (natAbs (s .args .b))))
 
 pub gcd-i64-spec : {M : Type 1} → statement M

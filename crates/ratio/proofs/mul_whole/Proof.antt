@@ -47,7 +47,7 @@ enum-told : tie.Need-enum-told
 enum-told c = search needs
 
 returns : tie.Need-returns
-returns c = 
+returns c =
     let d = c .before .before in
     let s = d .before .before .before in
     whole-over (s .args .x *ℤ s .args .y) (rw (abs-mul (s .args .x) (s .args .y)) (product-over _ (sym (answer d) ∙ c .enum-told .given .1)))
@@ -68,7 +68,7 @@ signed-requires : tie.Need-signed-requires
 signed-requires c κs = size (c .before .before .before) .1
 
 returns-2 : tie.Need-returns-2
-returns-2 c = 
+returns-2 c =
     let d = c .before .before .before .before in
     let s = d .before .before .before .before .before in
     let x = s .args .x in
@@ -76,8 +76,8 @@ returns-2 c =
     let m = d .m .given .0 .0 in
     let t = not (Bool·beq (c .before .before .is-neg .result) (c .before .is-neg2 .result)) in
     let e : t ≡ differ (ltZ x (pos 0)) (ltZ y (pos 0)) =
-        differ-is (c .before .before .is-neg .result) (c .before .is-neg2 .result)
-        ∙ ap₂ differ (copied-neg x _ (s .fits .x) (c .before .before .is-neg .ensures)) (copied-neg y _ (s .fits .y) (c .before .is-neg2 .ensures)) in
+    differ-is (c .before .before .is-neg .result) (c .before .is-neg2 .result)
+    ∙ ap₂ differ (copied-neg x _ (s .fits .x) (c .before .before .is-neg .ensures)) (copied-neg y _ (s .fits .y) (c .before .is-neg2 .ensures)) in
     whole-made _ (x *ℤ y) t m (c .signed .ensures) (size d .1) (size d .0 ∙ sym (abs-mul x y)) (ap₂ signed e (size d .0) ∙ mul-signed x y)
 
 pub mul-whole-spec : {M : Type 1} → statement M

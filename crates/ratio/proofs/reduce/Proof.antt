@@ -67,7 +67,7 @@ div-signed : tie.Need-div-signed
 div-signed c = parts (c .before .before) .above
 
 signed-requires : tie.Need-signed-requires
-signed-requires c κs = 
+signed-requires c κs =
     let g = c .before .before in
     let q = parts g in
     omega (arith, div-le-self (g .before .before .magnitude .result) (g .gcd .result), q)
@@ -76,7 +76,7 @@ div-signed-2 : tie.Need-div-signed-2
 div-signed-2 c = parts (c .before .before .before) .above
 
 signed-requires-2 : tie.Need-signed-requires-2
-signed-requires-2 c κs = 
+signed-requires-2 c κs =
     let g = c .before .before .before in
     let q = parts g in
     omega (arith, div-le-self (g .before .magnitude2 .result) (g .gcd .result), q)
@@ -90,8 +90,8 @@ returns c =
     let q = parts g in
     let t = not (Bool·beq (i .before .is-neg .result) (i .is-neg2 .result)) in
     let e : t ≡ differ (ltZ (s .args .n) (pos 0)) (ltZ (s .args .d) (pos 0)) =
-        differ-is (i .before .is-neg .result) (i .is-neg2 .result)
-        ∙ ap₂ differ (copied-neg (s .args .n) _ (s .fits .n) (i .before .is-neg .ensures)) (copied-neg (s .args .d) _ (s .fits .d) (i .is-neg2 .ensures)) in
+    differ-is (i .before .is-neg .result) (i .is-neg2 .result)
+    ∙ ap₂ differ (copied-neg (s .args .n) _ (s .fits .n) (i .before .is-neg .ensures)) (copied-neg (s .args .d) _ (s .fits .d) (i .is-neg2 .ensures)) in
     ap₂ (λ (u v : ℤ). record { num = u; den = v })
     (signed-read _ t (g .before .before .magnitude .result / g .gcd .result) (c .before .signed .ensures) (omega (arith, div-le-self (g .before .before .magnitude .result) (g .gcd .result), q))
     ∙ ap₂ S.signed e (ap₂ _/_ (q .mn) (q .divisor)))

@@ -1,48 +1,64 @@
+-- `ratio::wide_product` meets its contract: the product in base 2^32.
+use mathlib.Core.Path.{_≡_, sym, ap₂, _∙_}
+use Prim.Native.Nat.{_+_, _*_, _/_, _%_, _<_, _≤_}
+use native.Mathlib.Nat.{div-add-mod'}
+use native.Mathlib.Omega.{arith}
+use Rattle.ratio.proofs.Halves.{bound, carry, wide-is}
 use borrow.Author.Needs.{needs}
 use Rattle.ratio.proofs.wide_product.Statement.{statement}
 use Rattle.ratio.proofs.wide_product.Tie as tie
 use Rattle.ratio.proofs.wide_product.Reads as reads
 use Rattle.ratio.proofs.wide_product.Lts as lts
 
--- src/lib.rt:342:15
 mul-low : tie.Need-mul-low
-mul-low c = ?
+mul-low c = omega (arith, bound (c .args .a % 4294967296) (c .args .b % 4294967296) 4294967295 4294967295 (omega arith) (omega arith))
 
--- src/lib.rt:343:15
 mul-mid : tie.Need-mul-mid
-mul-mid c = ?
+mul-mid c = omega (arith, bound (c .args .a / 4294967296) (c .args .b % 4294967296) 2147483647 4294967295 (omega arith) (omega arith))
 
--- src/lib.rt:343:25
 mul-mid-2 : tie.Need-mul-mid-2
-mul-mid-2 c = ?
+mul-mid-2 c = omega (arith, bound (c .args .a % 4294967296) (c .args .b / 4294967296) 4294967295 2147483647 (omega arith) (omega arith))
 
--- src/lib.rt:343:15
 add-mid : tie.Need-add-mid
-add-mid c = ?
+add-mid c =
+    omega (
+      arith,
+      bound (c .args .a / 4294967296) (c .args .b % 4294967296) 2147483647 4294967295 (omega arith) (omega arith),
+      bound (c .args .a % 4294967296) (c .args .b / 4294967296) 4294967295 2147483647 (omega arith) (omega arith),
+    )
 
--- src/lib.rt:343:15
 add-mid-2 : tie.Need-add-mid-2
-add-mid-2 c = ?
+add-mid-2 c =
+    omega (
+      arith,
+      bound (c .args .a / 4294967296) (c .args .b % 4294967296) 2147483647 4294967295 (omega arith) (omega arith),
+      bound (c .args .a % 4294967296) (c .args .b / 4294967296) 4294967295 2147483647 (omega arith) (omega arith),
+      bound (c .args .a % 4294967296) (c .args .b % 4294967296) 4294967295 4294967295 (omega arith) (omega arith),
+    )
 
--- src/lib.rt:345:15
 mul-t9 : tie.Need-mul-t9
-mul-t9 c = ?
+mul-t9 c = omega (arith, bound (c .args .a / 4294967296) (c .args .b / 4294967296) 2147483647 2147483647 (omega arith) (omega arith))
 
--- src/lib.rt:345:15
 add-t11 : tie.Need-add-t11
-add-t11 c = ?
+add-t11 c =
+    record {
+      fits = carry
+          (c .args .a / 4294967296 * (c .args .b / 4294967296))
+          (c .args .a / 4294967296 * (c .args .b % 4294967296) + c .args .a % 4294967296 * (c .args .b / 4294967296) + c .args .a % 4294967296 * (c .args .b % 4294967296) / 4294967296)
+          (bound (c .args .a / 4294967296) (c .args .b / 4294967296) 2147483647 2147483647 (omega arith) (omega arith))
+          (add-mid-2 c .fits);
+    }
 
--- src/lib.rt:346:14
 mul-t13 : tie.Need-mul-t13
 mul-t13 c = search needs
 
--- src/lib.rt:346:14
 add-t15 : tie.Need-add-t15
 add-t15 c = search needs
 
--- src/lib.rt:334:1
 returns : tie.Need-returns
-returns c = ?
+returns c =
+    wide-is (c .args .a / 4294967296) (c .args .a % 4294967296) (c .args .b / 4294967296) (c .args .b % 4294967296)
+    ∙ ap₂ _*_ (div-add-mod' (c .args .a) 4294967296) (div-add-mod' (c .args .b) 4294967296)
 
 pub wide-product-spec : {M : Type 1} → statement M
 wide-product-spec =

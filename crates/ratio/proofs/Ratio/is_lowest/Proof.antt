@@ -1,3 +1,16 @@
+-- `ratio::Ratio::is_lowest` meets its contract.
+use mathlib.Core.Path.{_≡_, refl, sym, ap, ap₂, _∙_}
+use mathlib.Core.Bool.{Bool, true, false}
+use lib.Dec.{eqb}
+use lib.IntN.{ℤ, pos, natAbs}
+use lib.Signed.{ltZ}
+use Prim.Native.Nat.{ℕ}
+use Rattle.ratio.specs.Step.{isFraction}
+use Rattle.ratio.specs.Gcd.{gcdOf}
+use Rattle.ratio.specs.Promise.{Fraction}
+use Rattle.ratio.proofs.Words.{back}
+use Rattle.ratio.proofs.Fractions.{fraction-of}
+use Rattle.ratio.proofs.Answers.{lowest-both}
 use borrow.Author.Needs.{needs}
 use Rattle.ratio.proofs.Ratio.is_lowest.Statement.{statement}
 use Rattle.ratio.proofs.Ratio.is_lowest.Tie as tie
@@ -6,25 +19,35 @@ use Rattle.ratio.proofs.Ratio.is_lowest.Lts as lts
 use Rattle.ratio.proofs.gcd_i64.Reads as gcd-i64-reads
 use Rattle.ratio.proofs.is_fraction.Reads as is-fraction-reads
 
--- src/lib.rt:218:12
 is-fraction-requires : tie.Need-is-fraction-requires
 is-fraction-requires c κs = search needs
 
--- src/lib.rt:222:17
 gcd-i64-requires : tie.Need-gcd-i64-requires
 gcd-i64-requires c κs = search needs
 
--- src/lib.rt:214:5
+fr : (c : tie.Then1) → isFraction (c .before .before .args .self) ≡ true
+fr c = sym (c .before .is-fraction .ensures) ∙ c .if1 .taken
+
+is-r : (c : tie.Then1) → Fraction (c .before .before .args .self)
+is-r c = fraction-of _ (fr c)
+
 returns : tie.Need-returns
-returns c = ?
+returns c =
+    let t = c .before .before .before in
+    let r = t .before .before .args .self in
+    lowest-both r _ (rw (fr t, sym (ap (λ (z : ℤ). ltZ z (pos 0)) (back (r .den) (is-r t .den-within))) ∙ c .if2 .taken))
 
--- src/lib.rt:214:5
 returns-2 : tie.Need-returns-2
-returns-2 c = ?
+returns-2 c =
+    let e = c .before .before .before in
+    let t = e .before .before .before in
+    let r = t .before .before .args .self in
+    lowest-both r _
+    (ap (λ (g : ℕ). eqb g 1) (c .gcd-i64 .ensures .0 ∙ ap₂ (λ (x y : ℤ). gcdOf (natAbs x) (natAbs y)) (back (r .num) (is-r t .num-within)) (back (r .den) (is-r t .den-within)))
+    ∙ rw (fr t, sym (ap (λ (z : ℤ). ltZ z (pos 0)) (back (r .den) (is-r t .den-within))) ∙ e .if2 .left))
 
--- src/lib.rt:214:5
 returns-3 : tie.Need-returns-3
-returns-3 c = ?
+returns-3 c = lowest-both (c .before .before .args .self) _ (rw (sym (c .before .is-fraction .ensures) ∙ c .if1 .left))
 
 pub is-lowest-spec : {M : Type 1} → statement M
 is-lowest-spec =
