@@ -1,9 +1,9 @@
 -- The field of fractions of an integral domain: pairs up to cross products, as a set quotient.
-use mathlib.Core.Path.{_≡_, refl, sym, _∙_, ap, ap₂, subst}
+use mathlib.Core.Path.{_≡_, refl, sym, _∙_}
 use mathlib.Core.Logic.{_≢_}
-use mathlib.Core.List.{List, [], _∷_}
-use std.Quotient.{_/_, cls, eq/, /-set, /-rec, /-rec₂, /-elim-prop, /-elim-prop₂, /-elim-prop₃, /-map, IsEquivRel, effective, /-discrete}
-use Rattle.algebra.proofs.Ring.{CRing, Domain, Field, by1, by2, nil-mul, inv-prop}
+use mathlib.Core.List.{[], _∷_}
+use std.Quotient.{_/_, cls, eq/, /-set, /-rec₂, /-elim-prop, /-elim-prop₂, /-elim-prop₃, /-map, IsEquivRel, effective, /-discrete}
+use Rattle.algebra.proofs.Ring.{CRing, Domain, Field, by1, by2, mul-ne, inv-prop, inv-unique}
 use mathlib.Core.HLevel.{Π-prop}
 use Rattle.algebra.proofs.Reflect.{ring!, reify}
 
@@ -24,9 +24,6 @@ module _ {A : Type 0} (D : Domain A) where
   abbrev pub Pair : Type 0
   Pair = (n : A) × (d : A) × (d ≢ 𝟘)
 
-  pub mul-ne : (a b : A) → a ≢ 𝟘 → b ≢ 𝟘 → a * b ≢ 𝟘
-  mul-ne a b h k e = h (D .cancel a 𝟘 b k (e ∙ sym (nil-mul R b)))
-
   infix 40 _~_
   unfoldable pub _~_ : Pair → Pair → Type 0
   x ~ y = x .0 * y .1 ≡ y .0 * x .1
@@ -41,40 +38,40 @@ module _ {A : Type 0} (D : Domain A) where
   ~-trans : (x y z : Pair) → x ~ y → y ~ z → x ~ z
   unfolding _~_
   ~-trans x y z r s = D .cancel (x .0 * z .1) (z .0 * x .1) (y .1) (y .2)
-      (by2 R (z .1) r (x .1) s (ring! R (x .0 ∷ x .1 ∷ y .0 ∷ y .1 ∷ z .0 ∷ z .1 ∷ []) (search reify depth 20) tt))
+      (by2 R (z .1) r (x .1) s (ring! R (x .0 ∷ x .1 ∷ y .0 ∷ y .1 ∷ z .0 ∷ z .1 ∷ []) (search reify depth 30 fits 20000) tt))
 
   ~-equiv : IsEquivRel _~_
   unfolding _~_
   ~-equiv = record { reflexive = λ x. refl; symmetric = λ x y r. sym r; transitive = ~-trans }
 
   abbrev addP : Pair → Pair → Pair
-  addP x y = (x .0 * y .1 + y .0 * x .1, x .1 * y .1, mul-ne (x .1) (y .1) (x .2) (y .2))
+  addP x y = (x .0 * y .1 + y .0 * x .1, x .1 * y .1, mul-ne D (x .1) (y .1) (x .2) (y .2))
 
   abbrev mulP : Pair → Pair → Pair
-  mulP x y = (x .0 * y .0, x .1 * y .1, mul-ne (x .1) (y .1) (x .2) (y .2))
+  mulP x y = (x .0 * y .0, x .1 * y .1, mul-ne D (x .1) (y .1) (x .2) (y .2))
 
   abbrev negP : Pair → Pair
   negP x = (- x .0, x .1, x .2)
 
   add-l : (x x′ y : Pair) → x ~ x′ → addP x y ~ addP x′ y
   unfolding _~_
-  add-l x x′ y r = by1 R (y .1 * y .1) r (ring! R (x .0 ∷ x .1 ∷ x′ .0 ∷ x′ .1 ∷ y .0 ∷ y .1 ∷ []) (search reify depth 20) tt)
+  add-l x x′ y r = by1 R (y .1 * y .1) r (ring! R (x .0 ∷ x .1 ∷ x′ .0 ∷ x′ .1 ∷ y .0 ∷ y .1 ∷ []) (search reify depth 30 fits 20000) tt)
 
   add-r : (x y y′ : Pair) → y ~ y′ → addP x y ~ addP x y′
   unfolding _~_
-  add-r x y y′ r = by1 R (x .1 * x .1) r (ring! R (x .0 ∷ x .1 ∷ y′ .0 ∷ y′ .1 ∷ y .0 ∷ y .1 ∷ []) (search reify depth 20) tt)
+  add-r x y y′ r = by1 R (x .1 * x .1) r (ring! R (x .0 ∷ x .1 ∷ y′ .0 ∷ y′ .1 ∷ y .0 ∷ y .1 ∷ []) (search reify depth 30 fits 20000) tt)
 
   mul-l : (x x′ y : Pair) → x ~ x′ → mulP x y ~ mulP x′ y
   unfolding _~_
-  mul-l x x′ y r = by1 R (y .0 * y .1) r (ring! R (x .0 ∷ x .1 ∷ x′ .0 ∷ x′ .1 ∷ y .0 ∷ y .1 ∷ []) (search reify depth 20) tt)
+  mul-l x x′ y r = by1 R (y .0 * y .1) r (ring! R (x .0 ∷ x .1 ∷ x′ .0 ∷ x′ .1 ∷ y .0 ∷ y .1 ∷ []) (search reify depth 30 fits 20000) tt)
 
   mul-r : (x y y′ : Pair) → y ~ y′ → mulP x y ~ mulP x y′
   unfolding _~_
-  mul-r x y y′ r = by1 R (x .0 * x .1) r (ring! R (x .0 ∷ x .1 ∷ y′ .0 ∷ y′ .1 ∷ y .0 ∷ y .1 ∷ []) (search reify depth 20) tt)
+  mul-r x y y′ r = by1 R (x .0 * x .1) r (ring! R (x .0 ∷ x .1 ∷ y′ .0 ∷ y′ .1 ∷ y .0 ∷ y .1 ∷ []) (search reify depth 30 fits 20000) tt)
 
   neg-r : (x x′ : Pair) → x ~ x′ → negP x ~ negP x′
   unfolding _~_
-  neg-r x x′ r = by1 R (- 𝟙) r (ring! R (x .0 ∷ x .1 ∷ x′ .0 ∷ x′ .1 ∷ []) (search reify depth 20) tt)
+  neg-r x x′ r = by1 R (- 𝟙) r (ring! R (x .0 ∷ x .1 ∷ x′ .0 ∷ x′ .1 ∷ []) (search reify depth 30 fits 20000) tt)
 
   pub addF : Frac → Frac → Frac
   unfolding Frac _~_ map₂
@@ -117,42 +114,42 @@ module _ {A : Type 0} (D : Domain A) where
   pub addF-assoc : (x y z : Frac) → addF (addF x y) z ≡ addF x (addF y z)
   unfolding Frac _~_ addF map₂
   addF-assoc = /-elim-prop₃ (λ x y z. addF (addF x y) z ≡ addF x (addF y z)) (λ x y z. /-set _ _)
-      (λ x y z. eq/ (addP (addP x y) z) (addP x (addP y z)) (ring! R (x .0 ∷ x .1 ∷ y .0 ∷ y .1 ∷ z .0 ∷ z .1 ∷ []) (search reify depth 20) tt))
+      (λ x y z. eq/ (addP (addP x y) z) (addP x (addP y z)) (ring! R (x .0 ∷ x .1 ∷ y .0 ∷ y .1 ∷ z .0 ∷ z .1 ∷ []) (search reify depth 30 fits 20000) tt))
 
   pub addF-comm : (x y : Frac) → addF x y ≡ addF y x
   unfolding Frac _~_ addF map₂
   addF-comm = /-elim-prop₂ (λ x y. addF x y ≡ addF y x) (λ x y. /-set _ _)
-      (λ x y. eq/ (addP x y) (addP y x) (ring! R (x .0 ∷ x .1 ∷ y .0 ∷ y .1 ∷ []) (search reify depth 20) tt))
+      (λ x y. eq/ (addP x y) (addP y x) (ring! R (x .0 ∷ x .1 ∷ y .0 ∷ y .1 ∷ []) (search reify depth 30 fits 20000) tt))
 
   pub addF-nil : (x : Frac) → addF x nilF ≡ x
   unfolding Frac _~_ addF map₂ nilF fr
   addF-nil = /-elim-prop (λ x. addF x nilF ≡ x) (λ x. /-set _ _)
-      (λ x. eq/ (addP x (𝟘, 𝟙, D .proper)) x (ring! R (x .0 ∷ x .1 ∷ []) (search reify depth 20) tt))
+      (λ x. eq/ (addP x (𝟘, 𝟙, D .proper)) x (ring! R (x .0 ∷ x .1 ∷ []) (search reify depth 30 fits 20000) tt))
 
   pub addF-neg : (x : Frac) → addF x (negF x) ≡ nilF
   unfolding Frac _~_ addF negF map₂ /-map nilF fr
   addF-neg = /-elim-prop (λ x. addF x (negF x) ≡ nilF) (λ x. /-set _ _)
-      (λ x. eq/ (addP x (negP x)) (𝟘, 𝟙, D .proper) (ring! R (x .0 ∷ x .1 ∷ []) (search reify depth 20) tt))
+      (λ x. eq/ (addP x (negP x)) (𝟘, 𝟙, D .proper) (ring! R (x .0 ∷ x .1 ∷ []) (search reify depth 30 fits 20000) tt))
 
   pub mulF-assoc : (x y z : Frac) → mulF (mulF x y) z ≡ mulF x (mulF y z)
   unfolding Frac _~_ mulF map₂
   mulF-assoc = /-elim-prop₃ (λ x y z. mulF (mulF x y) z ≡ mulF x (mulF y z)) (λ x y z. /-set _ _)
-      (λ x y z. eq/ (mulP (mulP x y) z) (mulP x (mulP y z)) (ring! R (x .0 ∷ x .1 ∷ y .0 ∷ y .1 ∷ z .0 ∷ z .1 ∷ []) (search reify depth 20) tt))
+      (λ x y z. eq/ (mulP (mulP x y) z) (mulP x (mulP y z)) (ring! R (x .0 ∷ x .1 ∷ y .0 ∷ y .1 ∷ z .0 ∷ z .1 ∷ []) (search reify depth 30 fits 20000) tt))
 
   pub mulF-comm : (x y : Frac) → mulF x y ≡ mulF y x
   unfolding Frac _~_ mulF map₂
   mulF-comm = /-elim-prop₂ (λ x y. mulF x y ≡ mulF y x) (λ x y. /-set _ _)
-      (λ x y. eq/ (mulP x y) (mulP y x) (ring! R (x .0 ∷ x .1 ∷ y .0 ∷ y .1 ∷ []) (search reify depth 20) tt))
+      (λ x y. eq/ (mulP x y) (mulP y x) (ring! R (x .0 ∷ x .1 ∷ y .0 ∷ y .1 ∷ []) (search reify depth 30 fits 20000) tt))
 
   pub mulF-one : (x : Frac) → mulF x oneF ≡ x
   unfolding Frac _~_ mulF map₂ oneF fr
   mulF-one = /-elim-prop (λ x. mulF x oneF ≡ x) (λ x. /-set _ _)
-      (λ x. eq/ (mulP x (𝟙, 𝟙, D .proper)) x (ring! R (x .0 ∷ x .1 ∷ []) (search reify depth 20) tt))
+      (λ x. eq/ (mulP x (𝟙, 𝟙, D .proper)) x (ring! R (x .0 ∷ x .1 ∷ []) (search reify depth 30 fits 20000) tt))
 
   pub F-distl : (x y z : Frac) → mulF x (addF y z) ≡ addF (mulF x y) (mulF x z)
   unfolding Frac _~_ mulF addF map₂
   F-distl = /-elim-prop₃ (λ x y z. mulF x (addF y z) ≡ addF (mulF x y) (mulF x z)) (λ x y z. /-set _ _)
-      (λ x y z. eq/ (mulP x (addP y z)) (addP (mulP x y) (mulP x z)) (ring! R (x .0 ∷ x .1 ∷ y .0 ∷ y .1 ∷ z .0 ∷ z .1 ∷ []) (search reify depth 20) tt))
+      (λ x y z. eq/ (mulP x (addP y z)) (addP (mulP x y) (mulP x z)) (ring! R (x .0 ∷ x .1 ∷ y .0 ∷ y .1 ∷ z .0 ∷ z .1 ∷ []) (search reify depth 30 fits 20000) tt))
 
   abbrev pub Frac-ring : CRing Frac
   Frac-ring = record {
@@ -173,27 +170,41 @@ module _ {A : Type 0} (D : Domain A) where
   }
 
   -- the operations at fractions
-  pub fr-add : (n d n′ d′ : A) (h : d ≢ 𝟘) (h′ : d′ ≢ 𝟘) → addF (fr n d h) (fr n′ d′ h′) ≡ fr (n * d′ + n′ * d) (d * d′) (mul-ne d d′ h h′)
+  pub fr-add : (n d n′ d′ : A) (h : d ≢ 𝟘) (h′ : d′ ≢ 𝟘) → addF (fr n d h) (fr n′ d′ h′) ≡ fr (n * d′ + n′ * d) (d * d′) (mul-ne D d d′ h h′)
   unfolding Frac _~_ addF map₂ fr
   fr-add n d n′ d′ h h′ = refl
 
-  pub fr-mul : (n d n′ d′ : A) (h : d ≢ 𝟘) (h′ : d′ ≢ 𝟘) → mulF (fr n d h) (fr n′ d′ h′) ≡ fr (n * n′) (d * d′) (mul-ne d d′ h h′)
+  pub fr-mul : (n d n′ d′ : A) (h : d ≢ 𝟘) (h′ : d′ ≢ 𝟘) → mulF (fr n d h) (fr n′ d′ h′) ≡ fr (n * n′) (d * d′) (mul-ne D d d′ h h′)
   unfolding Frac _~_ mulF map₂ fr
   fr-mul n d n′ d′ h h′ = refl
+
+  pub fr-neg : (n d : A) (h : d ≢ 𝟘) → negF (fr n d h) ≡ fr (- n) d h
+  unfolding Frac _~_ negF /-map fr
+  fr-neg n d h = refl
 
   pub fr-ind : (P : Frac → Type 0) → ((x : Frac) → IsProp (P x)) → ((n d : A) (h : d ≢ 𝟘) → P (fr n d h)) → (x : Frac) → P x
   unfolding Frac fr
   fr-ind P pr f = /-elim-prop P pr (λ x. f (x .0) (x .1) (x .2))
 
-  fr-nil : (n d : A) (h : d ≢ 𝟘) → n ≡ 𝟘 → fr n d h ≡ nilF
+  -- when a fraction is 0, and when 1
+  pub fr-nil : (n d : A) (h : d ≢ 𝟘) → n ≡ 𝟘 → fr n d h ≡ nilF
   unfolding nilF
-  fr-nil n d h e = fr-eq n d 𝟘 𝟙 h (D .proper) (by1 R 𝟙 e (ring! R (n ∷ d ∷ []) (search reify depth 20) tt))
+  fr-nil n d h e = fr-eq n d 𝟘 𝟙 h (D .proper) (by1 R 𝟙 e (ring! R (n ∷ d ∷ []) (search reify depth 30 fits 20000) tt))
+
+  pub nil-fr : (n d : A) (h : d ≢ 𝟘) → fr n d h ≡ nilF → n ≡ 𝟘
+  unfolding nilF
+  nil-fr n d h e = by1 R 𝟙 (fr-inj n d 𝟘 𝟙 h (D .proper) e) (ring! R (n ∷ d ∷ []) (search reify depth 30 fits 20000) tt)
+
+  pub fr-one : (n d : A) (h : d ≢ 𝟘) → n ≡ d → fr n d h ≡ oneF
+  unfolding oneF
+  fr-one n d h e = fr-eq n d 𝟙 𝟙 h (D .proper) (by1 R 𝟙 e (ring! R (n ∷ d ∷ []) (search reify depth 30 fits 20000) tt))
+
+  fr-turn : (n d : A) (h : d ≢ 𝟘) (k : n ≢ 𝟘) → mulF (fr n d h) (fr d n k) ≡ oneF
+  fr-turn n d h k = fr-mul n d d n h k ∙ fr-one (n * d) (d * n) (mul-ne D d n h k) (mul-comm n d)
 
   pub inverse : (x : Frac) → x ≢ nilF → (y : Frac) × (mulF x y ≡ oneF)
-  unfolding oneF
   inverse = fr-ind (λ x. x ≢ nilF → (y : Frac) × (mulF x y ≡ oneF)) (λ x. Π-prop (λ _. inv-prop Frac-ring x))
-      (λ n d h ne. let k : n ≢ 𝟘 = λ e. ne (fr-nil n d h e) in
-      (fr d n k, fr-mul n d d n h k ∙ fr-eq (n * d) (d * n) 𝟙 𝟙 (mul-ne d n h k) (D .proper) (ring! R (n ∷ d ∷ []) (search reify depth 20) tt)))
+      (λ n d h ne. let k : n ≢ 𝟘 = λ e. ne (fr-nil n d h e) in (fr d n k, fr-turn n d h k))
 
   inv-dec : (x : Frac) → Dec (x ≡ nilF) → Frac
   inv-dec x (yes e) = nilF
@@ -211,9 +222,12 @@ module _ {A : Type 0} (D : Domain A) where
   unfolding invF
   mulF-inv x h = inv-dec-is x (Frac-discrete x nilF) h
 
+  pub fr-inv : (n d : A) (h : d ≢ 𝟘) (k : n ≢ 𝟘) → invF (fr n d h) ≡ fr d n k
+  fr-inv n d h k = inv-unique Frac-ring (fr n d h) (invF (fr n d h)) (fr d n k) (mulF-inv (fr n d h) (λ e. k (nil-fr n d h e))) (fr-turn n d h k)
+
   pub properF : oneF ≢ nilF
   unfolding oneF nilF
-  properF e = D .proper (by1 R 𝟙 (fr-inj 𝟙 𝟙 𝟘 𝟙 (D .proper) (D .proper) e) (ring! R [] (search reify depth 20) tt))
+  properF e = D .proper (by1 R 𝟙 (fr-inj 𝟙 𝟙 𝟘 𝟙 (D .proper) (D .proper) e) (ring! R [] (search reify depth 30 fits 20000) tt))
 
   abbrev pub Frac-field : Field Frac
   Frac-field = record { ring = Frac-ring; proper = properF; inv = invF; mul-inv = mulF-inv; discrete = Frac-discrete }

@@ -1,12 +1,15 @@
--- The rationals.
-use mathlib.Core.Path.{_≡_, refl, sym, _∙_, ap, ap₂, subst}
+-- The rationals: the field of fractions of the whole numbers. The pairs of specs/Rational are read in it by `val`: equal by cross products is equal here.
+use mathlib.Core.Path.{_≡_, refl, sym, _∙_, ap, ap₂}
 use mathlib.Core.Logic.{_≢_}
-use mathlib.Core.List.{List, [], _∷_}
-use lib.IntN.{ℤ, pos, negsuc, _+ℤ_, _*ℤ_, pos-ne-negsuc}
-use Prim.Native.Nat.{ℕ, suc}
-use Rattle.algebra.proofs.Ring.{CRing, Domain, Field}
-use Rattle.algebra.proofs.Whole.{ℤ-domain, pos-ne}
-use Rattle.algebra.proofs.Fraction.{Frac, addF, mulF, negF, nilF, oneF, invF, fr, fr-eq, fr-inj, fr-add, Frac-ring, Frac-field}
+use mathlib.Core.List.{[], _∷_}
+use Prim.Native.Nat.{ℕ, zero, suc}
+use native.Mathlib.Numerals.{add-one}
+use native.Mathlib.Omega.{arith}
+use lib.IntN.{ℤ, ℤ-discrete, pos, negsuc, negℤ, _+ℤ_, _*ℤ_}
+use Rattle.algebra.specs.Rational.{Rat, Same, whole, zeroQ, oneQ, addQ, mulQ, negQ, subQ, over}
+use Rattle.algebra.proofs.Ring.{CRing, Domain, Field, Field-domain, nat, nat-zero, nat-suc, neg-mul, mul-neg}
+use Rattle.algebra.proofs.Whole.{ℤ-ring, ℤ-domain, pos-ne, pos-inj, one-*ℤ}
+use Rattle.algebra.proofs.Fraction.{Frac, addF, mulF, negF, nilF, oneF, invF, fr, fr-eq, fr-inj, fr-add, fr-mul, fr-neg, fr-inv, fr-nil, fr-one, nil-fr, Frac-ring, Frac-field}
 use Rattle.algebra.proofs.Reflect.{ring!, reify}
 
 abbrev pub ℚ : Type 0
@@ -20,8 +23,18 @@ infixl 70 _*ℚ_
 abbrev pub _*ℚ_ : ℚ → ℚ → ℚ
 _*ℚ_ = mulF ℤ-domain
 
+infix 75 -ℚ_
 abbrev pub -ℚ_ : ℚ → ℚ
 -ℚ_ = negF ℤ-domain
+
+abbrev pub 0ℚ : ℚ
+0ℚ = nilF ℤ-domain
+
+abbrev pub 1ℚ : ℚ
+1ℚ = oneF ℤ-domain
+
+abbrev pub invℚ : ℚ → ℚ
+invℚ = invF ℤ-domain
 
 abbrev pub ℚ-ring : CRing ℚ
 ℚ-ring = Frac-ring ℤ-domain
@@ -29,13 +42,100 @@ abbrev pub ℚ-ring : CRing ℚ
 abbrev pub ℚ-field : Field ℚ
 ℚ-field = Frac-field ℤ-domain
 
--- n / (d + 1)
-unfoldable pub q : ℤ → ℕ → ℚ
-q n d = fr ℤ-domain n (pos (suc d)) (pos-ne d)
+abbrev pub ℚ-domain : Domain ℚ
+ℚ-domain = Field-domain ℚ-field
 
-third : q (pos 1) 1 +ℚ q (pos 1) 2 ≡ q (pos 5) 5
-unfolding q
-third = fr-add ℤ-domain (pos 1) (pos 2) (pos 1) (pos 3) _ _ ∙ fr-eq ℤ-domain (pos 5) (pos 6) (pos 5) (pos 6) _ _ refl
+-- the value of a pair
+pub den-ne : (x : Rat) → pos (x .den) ≢ pos 0
+den-ne x e = let h : x .den ≡ 0 = pos-inj (x .den) 0 e in omega (arith, x .above-zero)
 
-l1 : (a b c : ℚ) → (a +ℚ b) *ℚ (a +ℚ -ℚ_ b) *ℚ c ≡ a *ℚ a *ℚ c +ℚ -ℚ_ (b *ℚ c *ℚ b)
-l1 a b c = ring! ℚ-ring (a ∷ b ∷ c ∷ []) (search reify depth 20) tt
+pub val : Rat → ℚ
+val x = fr ℤ-domain (x .num) (pos (x .den)) (den-ne x)
+
+pub val-fr : (x : Rat) → val x ≡ fr ℤ-domain (x .num) (pos (x .den)) (den-ne x)
+unfolding val
+val-fr x = refl
+
+pub val-same : (x y : Rat) → Same x y → val x ≡ val y
+unfolding val
+val-same x y e = fr-eq ℤ-domain (x .num) (pos (x .den)) (y .num) (pos (y .den)) (den-ne x) (den-ne y) e
+
+pub same-val : (x y : Rat) → val x ≡ val y → Same x y
+unfolding val
+same-val x y e = fr-inj ℤ-domain (x .num) (pos (x .den)) (y .num) (pos (y .den)) (den-ne x) (den-ne y) e
+
+-- equality by cross products is an equivalence relation, and can be decided
+pub same-refl : (x : Rat) → Same x x
+same-refl x = refl
+
+pub same-sym : (x y : Rat) → Same x y → Same y x
+same-sym x y e = sym e
+
+pub same-trans : (x y z : Rat) → Same x y → Same y z → Same x z
+same-trans x y z e f = same-val x z (val-same x y e ∙ val-same y z f)
+
+pub same-dec : (x y : Rat) → Dec (Same x y)
+same-dec x y = ℤ-discrete (x .num *ℤ pos (y .den)) (y .num *ℤ pos (x .den))
+
+-- the operations on pairs are those of the field
+pub val-zero : val zeroQ ≡ 0ℚ
+unfolding val
+val-zero = fr-nil ℤ-domain (pos 0) (pos 1) (den-ne zeroQ) refl
+
+pub val-one : val oneQ ≡ 1ℚ
+unfolding val
+val-one = fr-one ℤ-domain (pos 1) (pos 1) (den-ne oneQ) refl
+
+pub val-add : (x y : Rat) → val (addQ x y) ≡ val x +ℚ val y
+unfolding val
+val-add x y = fr-eq ℤ-domain _ _ _ _ (den-ne (addQ x y)) _ refl ∙ sym (fr-add ℤ-domain (x .num) (pos (x .den)) (y .num) (pos (y .den)) (den-ne x) (den-ne y))
+
+pub val-mul : (x y : Rat) → val (mulQ x y) ≡ val x *ℚ val y
+unfolding val
+val-mul x y = fr-eq ℤ-domain _ _ _ _ (den-ne (mulQ x y)) _ refl ∙ sym (fr-mul ℤ-domain (x .num) (pos (x .den)) (y .num) (pos (y .den)) (den-ne x) (den-ne y))
+
+pub val-neg : (x : Rat) → val (negQ x) ≡ -ℚ val x
+unfolding val
+val-neg x = fr-eq ℤ-domain _ _ _ _ (den-ne (negQ x)) _ refl ∙ sym (fr-neg ℤ-domain (x .num) (pos (x .den)) (den-ne x))
+
+pub val-sub : (x y : Rat) → val (subQ x y) ≡ val x +ℚ -ℚ val y
+val-sub x y = val-add x (negQ y) ∙ ap (λ t. val x +ℚ t) (val-neg y)
+
+-- whole numbers among the rationals
+pub whole-add : (a b : ℤ) → val (whole (a +ℤ b)) ≡ val (whole a) +ℚ val (whole b)
+whole-add a b = val-same (whole (a +ℤ b)) (addQ (whole a) (whole b)) (ring! ℤ-ring (a ∷ b ∷ []) (search reify depth 30 fits 20000) tt) ∙ val-add (whole a) (whole b)
+
+pub whole-mul : (a b : ℤ) → val (whole (a *ℤ b)) ≡ val (whole a) *ℚ val (whole b)
+whole-mul a b = val-same (whole (a *ℤ b)) (mulQ (whole a) (whole b)) refl ∙ val-mul (whole a) (whole b)
+
+pub whole-neg : (a : ℤ) → val (whole (negℤ a)) ≡ -ℚ val (whole a)
+whole-neg a = val-neg (whole a)
+
+pub whole-inj : (a b : ℤ) → val (whole a) ≡ val (whole b) → a ≡ b
+whole-inj a b e = sym (one-*ℤ a) ∙ same-val (whole a) (whole b) e ∙ one-*ℤ b
+
+-- characteristic 0
+pub nat-ℚ : (n : ℕ) → nat ℚ-ring n ≡ val (whole (pos n))
+nat-ℚ zero = nat-zero ℚ-ring ∙ sym val-zero
+nat-ℚ (suc n) = nat-suc ℚ-ring n ∙ ap₂ _+ℚ_ (nat-ℚ n) (sym val-one) ∙ sym (whole-add (pos n) (pos 1)) ∙ ap (λ k. val (whole (pos k))) (add-one n)
+
+pub nat-ℚ-ne : (n : ℕ) → nat ℚ-ring (suc n) ≢ 0ℚ
+nat-ℚ-ne n e = pos-ne n (whole-inj (pos (suc n)) (pos 0) (sym (nat-ℚ (suc n)) ∙ e ∙ sym val-zero))
+
+-- n / d, and its inverse
+pub val-over : (n d : ℤ) (h : d ≢ pos 0) → val (over n d) ≡ fr ℤ-domain n d h
+unfolding val
+val-over n (pos zero) h = absurd (h refl)
+val-over n (pos (suc d)) h = fr-eq ℤ-domain n (pos (suc d)) n (pos (suc d)) (den-ne (over n (pos (suc d)))) h refl
+val-over n (negsuc d) h = fr-eq ℤ-domain (negℤ n) (pos (suc d)) n (negsuc d) (den-ne (over n (negsuc d))) h
+    (neg-mul ℤ-ring n (negsuc d) ∙ sym (mul-neg ℤ-ring n (negsuc d)))
+
+pub val-inv : (n d : ℤ) → n ≢ pos 0 → d ≢ pos 0 → val (over d n) ≡ invℚ (val (over n d))
+val-inv n d h k = val-over d n h ∙ sym (fr-inv ℤ-domain n d k h) ∙ ap invℚ (sym (val-over n d k))
+
+pub over-nil : (n d : ℤ) → d ≢ pos 0 → val (over n d) ≡ 0ℚ → n ≡ pos 0
+over-nil n d h e = nil-fr ℤ-domain n d h (sym (val-over n d h) ∙ e)
+
+pub val-nil : (x : Rat) → val x ≡ 0ℚ → x .num ≡ pos 0
+unfolding val
+val-nil x e = nil-fr ℤ-domain (x .num) (pos (x .den)) (den-ne x) e

@@ -1,9 +1,8 @@
 -- A commutative ring: operations and laws in one flat record, and what every proof needs of it.
-use mathlib.Core.Path.{_≡_, refl, sym, _∙_, ap, ap₂, subst}
+use mathlib.Core.Path.{_≡_, refl, sym, _∙_, ap, ap₂}
 use mathlib.Core.Logic.{_≢_}
 use mathlib.Core.HLevel.{Σ-prop-path}
-use Prim.Native.Nat.{ℕ, zero, suc}
-use Prim.Native.Nat.{_+_ as _+ⁿ_, _*_ as _*ⁿ_}
+use Prim.Native.Nat.{ℕ, zero, suc, _^_, _+_ as _+ⁿ_, _*_ as _*ⁿ_}
 use native.Mathlib.Nat as NL
 
 pub record CRing (A : Type 0) : Type 0 where
@@ -46,12 +45,11 @@ module _ {A : Type 0} (R : CRing A) where
   pub mul-lcomm : (a b c : A) → a * (b * c) ≡ b * (a * c)
   mul-lcomm a b c = sym (mul-assoc a b c) ∙ ap (λ t. t * c) (mul-comm a b) ∙ mul-assoc b a c
 
-  -- a + b ≡ a + c → b ≡ c
+  pub neg-cancel : (a b : A) → - a + (a + b) ≡ b
+  neg-cancel a b = sym (add-assoc (- a) a b) ∙ ap (λ t. t + b) (neg-add a) ∙ nil-add b
+
   pub add-cancel : (a b c : A) → a + b ≡ a + c → b ≡ c
-  add-cancel a b c e = sym (undo b) ∙ ap (λ t. - a + t) e ∙ undo c
-    where
-      undo : (x : A) → - a + (a + x) ≡ x
-      undo x = sym (add-assoc (- a) a x) ∙ ap (λ t. t + x) (neg-add a) ∙ nil-add x
+  add-cancel a b c e = sym (neg-cancel a b) ∙ ap (λ t. - a + t) e ∙ neg-cancel a c
 
   pub mul-nil : (a : A) → a * 𝟘 ≡ 𝟘
   mul-nil a = add-cancel (a * 𝟘) (a * 𝟘) 𝟘 (sym (distl a 𝟘 𝟘) ∙ ap (λ t. a * t) (add-nil 𝟘) ∙ sym (add-nil (a * 𝟘)))
@@ -87,42 +85,13 @@ module _ {A : Type 0} (R : CRing A) where
   pub sub-nil : (a b : A) → a + - b ≡ 𝟘 → a ≡ b
   sub-nil a b e = sym (add-nil a) ∙ ap (λ t. a + t) (sym (neg-add b)) ∙ sym (add-assoc a (- b) b) ∙ ap (λ t. t + b) e ∙ nil-add b
 
-  -- the laws as lemmas, for a set of rules
-  pub r-distl : (a b c : A) → a * (b + c) ≡ a * b + a * c
-  r-distl = distl
-
+  -- a field of the record as a declared name, for lists of rules
   pub r-mul-assoc : (a b c : A) → a * b * c ≡ a * (b * c)
   r-mul-assoc = mul-assoc
 
-  pub r-mul-comm : (a b : A) → a * b ≡ b * a
-  r-mul-comm = mul-comm
-
-  pub r-mul-one : (a : A) → a * 𝟙 ≡ a
-  r-mul-one = mul-one
-
-  pub r-add-assoc : (a b c : A) → a + b + c ≡ a + (b + c)
-  r-add-assoc = add-assoc
-
-  pub r-add-comm : (a b : A) → a + b ≡ b + a
-  r-add-comm = add-comm
-
-  pub r-add-nil : (a : A) → a + 𝟘 ≡ a
-  r-add-nil = add-nil
-
-  pub r-add-neg : (a : A) → a + - a ≡ 𝟘
-  r-add-neg = add-neg
-
-  pub neg-cancel : (a b : A) → - a + (a + b) ≡ b
-  neg-cancel a b = sym (add-assoc (- a) a b) ∙ ap (λ t. t + b) (neg-add a) ∙ nil-add b
-
-  pub cancel-neg : (a b : A) → a + (- a + b) ≡ b
-  cancel-neg a b = sym (add-assoc a (- a) b) ∙ ap (λ t. t + b) (add-neg a) ∙ nil-add b
-
-pub ruleset ring·simp = (r-distl, distr, r-mul-assoc, r-mul-comm, mul-lcomm, r-mul-one, one-mul, mul-nil, nil-mul, r-add-assoc, r-add-comm, add-lcomm, r-add-nil, nil-add, r-add-neg, neg-add, neg-cancel, cancel-neg, mul-neg, neg-mul, neg-neg, neg-nil, neg-add-dist)
-
--- linear combinations of equations: a − b is a multiple of l − r
+-- an equation from others: a − b is a combination of differences l − r that are 0
 module _ {A : Type 0} (R : CRing A) where
-  open CRing R using (add as _+_, mul as _*_, neg as -_, nil as 𝟘, one as 𝟙, add-neg, add-nil)
+  open CRing R using (add as _+_, mul as _*_, neg as -_, nil as 𝟘, add-neg, add-nil)
 
   infixl 60 _+_
   infixl 70 _*_
@@ -136,15 +105,32 @@ module _ {A : Type 0} (R : CRing A) where
   pub by2 : (c : A) {l r : A} → l ≡ r → (c′ : A) {l′ r′ : A} → l′ ≡ r′ → {a b : A} → a + - b ≡ c * (l + - r) + c′ * (l′ + - r′) → a ≡ b
   by2 c {l} {r} h c′ {l′} {r′} h′ {a} {b} e = sub-nil R a b (e ∙ ap₂ _+_ (zero-of c l r h) (zero-of c′ l′ r′ h′) ∙ add-nil 𝟘)
 
--- the natural numbers and the powers
+  pub by3 : (c : A) {l r : A} → l ≡ r → (c′ : A) {l′ r′ : A} → l′ ≡ r′ → (c″ : A) {l″ r″ : A} → l″ ≡ r″ → {a b : A}
+      → a + - b ≡ c * (l + - r) + c′ * (l′ + - r′) + c″ * (l″ + - r″) → a ≡ b
+  by3 c {l} {r} h c′ {l′} {r′} h′ c″ {l″} {r″} h″ {a} {b} e =
+      sub-nil R a b (e ∙ ap₂ _+_ (ap₂ _+_ (zero-of c l r h) (zero-of c′ l′ r′ h′)) (zero-of c″ l″ r″ h″) ∙ ap (λ t. t + 𝟘) (add-nil 𝟘) ∙ add-nil 𝟘)
+
+-- the image of the natural numbers, and powers
 module _ {A : Type 0} (R : CRing A) where
-  open CRing R using (add as _+_, mul as _*_, neg as -_, nil as 𝟘, one as 𝟙, add-nil, add-assoc, mul-assoc, mul-one, distl)
+  open CRing R using (add as _+_, mul as _*_, nil as 𝟘, one as 𝟙, add-nil, add-assoc, mul-assoc, mul-comm, mul-one, distl)
 
   infixl 60 _+_
   infixl 70 _*_
   unfoldable pub nat : ℕ → A
   nat zero = 𝟘
   nat (suc n) = nat n + 𝟙
+
+  pub nat-zero : nat 0 ≡ 𝟘
+  unfolding nat
+  nat-zero = refl
+
+  pub nat-one : nat 1 ≡ 𝟙
+  unfolding nat
+  nat-one = nil-add R 𝟙
+
+  pub nat-suc : (n : ℕ) → nat (suc n) ≡ nat n + 𝟙
+  unfolding nat
+  nat-suc n = refl
 
   pub nat-add : (m n : ℕ) → nat (m +ⁿ n) ≡ nat m + nat n
   unfolding nat
@@ -160,10 +146,46 @@ module _ {A : Type 0} (R : CRing A) where
   pow a zero = 𝟙
   pow a (suc n) = pow a n * a
 
+  pub pow-zero : (a : A) → pow a 0 ≡ 𝟙
+  unfolding pow
+  pow-zero a = refl
+
+  pub pow-suc : (a : A) (n : ℕ) → pow a (suc n) ≡ pow a n * a
+  unfolding pow
+  pow-suc a n = refl
+
+  pub pow-suc-l : (a : A) (n : ℕ) → pow a (suc n) ≡ a * pow a n
+  pow-suc-l a n = pow-suc a n ∙ mul-comm (pow a n) a
+
+  pub pow-one : (a : A) → pow a 1 ≡ a
+  pow-one a = pow-suc a 0 ∙ ap (λ t. t * a) (pow-zero a) ∙ one-mul R a
+
+  pub one-pow : (n : ℕ) → pow 𝟙 n ≡ 𝟙
+  one-pow zero = pow-zero 𝟙
+  one-pow (suc n) = pow-suc 𝟙 n ∙ mul-one (pow 𝟙 n) ∙ one-pow n
+
+  pub nil-pow : (n : ℕ) → pow 𝟘 (suc n) ≡ 𝟘
+  nil-pow n = pow-suc 𝟘 n ∙ mul-nil R (pow 𝟘 n)
+
   pub pow-add : (a : A) (m n : ℕ) → pow a (m +ⁿ n) ≡ pow a m * pow a n
   unfolding pow
   pow-add a m zero = ap (pow a) (NL.add-zero m) ∙ sym (mul-one (pow a m))
   pow-add a m (suc n) = ap (pow a) (NL.add-suc m n) ∙ ap (λ t. t * a) (pow-add a m n) ∙ mul-assoc (pow a m) (pow a n) a
+
+  pub pow-mul : (a b : A) (n : ℕ) → pow (a * b) n ≡ pow a n * pow b n
+  unfolding pow
+  pow-mul a b zero = sym (mul-one 𝟙)
+  pow-mul a b (suc n) = ap (λ t. t * (a * b)) (pow-mul a b n) ∙ mul-swap R (pow a n) (pow b n) a b
+
+  pub pow-pow : (a : A) (m n : ℕ) → pow (pow a m) n ≡ pow a (m *ⁿ n)
+  unfolding pow
+  pow-pow a m zero = sym (ap (pow a) (NL.mul-zero m))
+  pow-pow a m (suc n) = ap (λ t. t * pow a m) (pow-pow a m n) ∙ sym (ap (pow a) (NL.mul-suc m n) ∙ pow-add a (m *ⁿ n) m)
+
+  pub nat-pow : (m n : ℕ) → nat (m ^ n) ≡ pow (nat m) n
+  unfolding pow
+  nat-pow m zero = ap nat (NL.pow-zero m) ∙ nat-one
+  nat-pow m (suc n) = ap nat (NL.pow-suc m n) ∙ nat-mul (m ^ n) m ∙ ap (λ t. t * nat m) (nat-pow m n)
 
 pub record Domain (A : Type 0) : Type 0 where
   pub ring : CRing A
@@ -180,7 +202,7 @@ pub record Field (A : Type 0) : Type 0 where
 
 -- two inverses of one element are equal
 module _ {A : Type 0} (R : CRing A) where
-  open CRing R using (add as _+_, mul as _*_, neg as -_, nil as 𝟘, one as 𝟙, mul-one, mul-assoc, mul-comm)
+  open CRing R using (mul as _*_, one as 𝟙, mul-one, mul-assoc, mul-comm)
 
   infixl 70 _*_
   pub inv-unique : (a b c : A) → a * b ≡ 𝟙 → a * c ≡ 𝟙 → b ≡ c
@@ -191,7 +213,7 @@ module _ {A : Type 0} (R : CRing A) where
 
 -- a field is a domain
 module _ {A : Type 0} (K : Field A) where
-  open CRing (K .ring) using (add as _+_, mul as _*_, neg as -_, nil as 𝟘, one as 𝟙, mul-one, mul-assoc, mul-comm)
+  open CRing (K .ring) using (mul as _*_, nil as 𝟘, mul-one, mul-assoc)
 
   infixl 70 _*_
   pub field-cancel : (a b c : A) → c ≢ 𝟘 → a * c ≡ b * c → a ≡ b
@@ -202,3 +224,18 @@ module _ {A : Type 0} (K : Field A) where
 
   abbrev pub Field-domain : Domain A
   Field-domain = record { ring = K .ring; proper = K .proper; cancel = field-cancel; discrete = K .discrete }
+
+-- a domain has no zero divisors
+module _ {A : Type 0} (D : Domain A) where
+  open CRing (D .ring) using (mul as _*_, nil as 𝟘)
+
+  infixl 70 _*_
+  pub no-zero-div : (a b : A) → a * b ≡ 𝟘 → b ≢ 𝟘 → a ≡ 𝟘
+  no-zero-div a b e h = D .cancel a 𝟘 b h (e ∙ sym (nil-mul (D .ring) b))
+
+  pub mul-ne : (a b : A) → a ≢ 𝟘 → b ≢ 𝟘 → a * b ≢ 𝟘
+  mul-ne a b h k e = h (no-zero-div a b e k)
+
+  pub pow-ne : (a : A) → a ≢ 𝟘 → (n : ℕ) → pow (D .ring) a n ≢ 𝟘
+  pow-ne a h zero e = D .proper (sym (pow-zero (D .ring) a) ∙ e)
+  pow-ne a h (suc n) e = mul-ne (pow (D .ring) a n) a (pow-ne a h n) h (sym (pow-suc (D .ring) a n) ∙ e)

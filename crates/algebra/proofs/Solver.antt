@@ -3,26 +3,29 @@ use mathlib.Core.Path.{_≡_, refl, sym, _∙_, ap, ap₂, subst}
 use mathlib.Core.Bool.{Bool, true, false}
 use mathlib.Core.List.{List, [], _∷_}
 use Prim.Native.Nat.{ℕ, zero, suc, compare, Ordering, Ordering·lt, Ordering·eq, Ordering·gt}
-use Prim.Native.Nat.{_+_ as _+ⁿ_, _*_ as _*ⁿ_}
-use native.Mathlib.Nat as NL
+use Prim.Native.Nat.{_+_ as _+ⁿ_}
 use lib.Dec.{T, isEq, eqb→eq}
 use lib.IntN.{ℤ, pos, negsuc, negℤ, _+ℤ_, _*ℤ_}
 use Rattle.algebra.proofs.Ring as RL
 use Rattle.algebra.proofs.Ring.{CRing}
-use Rattle.algebra.proofs.Whole.{up, dn, up-pos, dn-pos, up-neg, dn-neg, add-is, mul-is, neg-is}
+use Rattle.algebra.proofs.Whole.{up, dn, add-is, mul-is, neg-is}
 
+-- variable 0, 1, ..; 0; 1; a numeral; sum, difference, product, negative, power
 infixl 60 _⊕_
 infixl 60 _⊖_
 infixl 70 _⊗_
 infix 75 ⊝_
+infixl 80 _⊛_
 pub data Expr : Type 0 where
   var : ℕ → Expr
   nil : Expr
   unit : Expr
+  num : ℕ → Expr
   _⊕_ : Expr → Expr → Expr
   _⊖_ : Expr → Expr → Expr
   _⊗_ : Expr → Expr → Expr
   ⊝_ : Expr → Expr
+  _⊛_ : Expr → ℕ → Expr
 
 -- a monomial: the exponents of the variables 0, 1, ..
 abbrev pub Mon : Type 0
@@ -83,37 +86,24 @@ abbrev pub pmul : Poly → Poly → Poly
 pmul end q = end
 pmul (term c m p) q = pmula c m q (pmul p q)
 
+abbrev pub ppow : Poly → ℕ → Poly
+ppow p zero = term (pos 1) [] end
+ppow p (suc k) = pmul (ppow p k) p
+
 abbrev pub nf : Expr → Poly
 nf (var i) = term (pos 1) (mvar i) end
 nf nil = end
 nf unit = term (pos 1) [] end
+nf (num k) = tidy (pos k) [] end
 nf (a ⊕ b) = padd (nf a) (nf b)
 nf (a ⊖ b) = padd (nf a) (pneg (nf b))
 nf (a ⊗ b) = pmul (nf a) (nf b)
 nf (⊝ a) = pneg (nf a)
+nf (a ⊛ k) = ppow (nf a) k
 
 abbrev pub isEnd : Poly → Bool
 isEnd end = true
 isEnd (term c m p) = false
-
-infix 50 _≗_
-pub data Eqn : Type 0 where
-  _≗_ : Expr → Expr → Eqn
-
-abbrev pub holds : Eqn → Bool
-holds (l ≗ r) = isEnd (nf (l ⊖ r))
-
-abbrev pub holdsBy : Eqn → Expr → Eqn → Bool
-holdsBy (hl ≗ hr) c (l ≗ r) = isEnd (nf ((l ⊖ r) ⊖ c ⊗ (hl ⊖ hr)))
-
--- a function of as many expressions as the list has elements, and its value at the variables
-abbrev pub Fn : {A : Type 0} → Type 0 → List A → Type 0
-Fn X [] = X
-Fn X (a ∷ ρ) = Expr → Fn X ρ
-
-abbrev pub close : {A : Type 0} {X : Type 0} (ρ : List A) → ℕ → Fn X ρ → X
-close [] i f = f
-close (a ∷ ρ) i f = close ρ (suc i) (f (var i))
 
 IsEq : Ordering → Type 0
 IsEq o = T (isEq o)
@@ -132,14 +122,11 @@ cmp-eq (a ∷ m) [] e = absurd (subst IsEq (sym e) tt)
 cmp-eq (a ∷ m) (b ∷ n) e = cmp-eq-go a b m n (cmp-eq m n) (compare a b) refl e
 
 module _ {A : Type 0} (R : CRing A) where
-  open CRing R using (add as _+_, mul as _*_, neg as -_, nil as 𝟘, one as 𝟙, add-assoc, add-comm, add-nil, add-neg, mul-assoc, mul-comm, mul-one, distl)
+  open CRing R using (add as _+_, mul as _*_, neg as -_, nil as 𝟘, one as 𝟙, add-assoc, add-comm, add-nil, add-neg, mul-one, distl)
 
   infixl 60 _+_
   infixl 70 _*_
   infix 75 -_
-  abbrev pub sub : A → A → A
-  sub a b = a + - b
-
   abbrev pub look : List A → ℕ → A
   look [] i = 𝟙
   look (a ∷ ρ) zero = a
@@ -149,10 +136,12 @@ module _ {A : Type 0} (R : CRing A) where
   eval ρ (var i) = look ρ i
   eval ρ nil = 𝟘
   eval ρ unit = 𝟙
+  eval ρ (num k) = RL.nat R k
   eval ρ (a ⊕ b) = eval ρ a + eval ρ b
   eval ρ (a ⊖ b) = eval ρ a + - eval ρ b
   eval ρ (a ⊗ b) = eval ρ a * eval ρ b
   eval ρ (⊝ a) = - eval ρ a
+  eval ρ (a ⊛ k) = RL.pow R (eval ρ a) k
 
   int : ℤ → A
   int z = RL.nat R (up z) + - RL.nat R (dn z)
@@ -187,13 +176,9 @@ module _ {A : Type 0} (R : CRing A) where
       diff-eq (RL.nat R (up (negℤ x))) (RL.nat R (dn (negℤ x))) (RL.nat R (dn x)) (RL.nat R (up x)) (simp (← RL.nat-add R) (ap (RL.nat R) (neg-is x)))
       ∙ sym (RL.neg-add-dist R (RL.nat R (up x)) (- RL.nat R (dn x)) ∙ ap (λ t. - RL.nat R (up x) + t) (RL.neg-neg R (RL.nat R (dn x))) ∙ add-comm (- RL.nat R (up x)) (RL.nat R (dn x)))
 
-  int-nil : int (pos 0) ≡ 𝟘
+  int-pos : (n : ℕ) → int (pos n) ≡ RL.nat R n
   unfolding int RL.nat up dn
-  int-nil = add-neg 𝟘
-
-  int-one : int (pos 1) ≡ 𝟙
-  unfolding int RL.nat up dn
-  int-one = ap₂ _+_ (RL.nil-add R 𝟙) (RL.neg-nil R) ∙ add-nil 𝟙
+  int-pos n = ap (λ t. RL.nat R n + t) (RL.neg-nil R) ∙ add-nil (RL.nat R n)
 
   meval : List A → Mon → A
   meval ρ [] = 𝟙
@@ -221,7 +206,7 @@ module _ {A : Type 0} (R : CRing A) where
 
     tidy-is : (c : ℤ) (m : Mon) (p : Poly) → peval (tidy c m p) ≡ int c * meval ρ m + peval p
     unfolding peval
-    tidy-is (pos zero) m p = sym (ap (λ t. t * meval ρ m + peval p) int-nil ∙ ap (λ t. t + peval p) (RL.nil-mul R (meval ρ m)) ∙ RL.nil-add R (peval p))
+    tidy-is (pos zero) m p = sym (ap (λ t. t * meval ρ m + peval p) (int-pos 0 ∙ RL.nat-zero R) ∙ ap (λ t. t + peval p) (RL.nil-mul R (meval ρ m)) ∙ RL.nil-add R (peval p))
     tidy-is (pos (suc k)) m p = refl
     tidy-is (negsuc k) m p = refl
 
@@ -274,17 +259,28 @@ module _ {A : Type 0} (R : CRing A) where
 
     unit-is : (m : Mon) → peval (term (pos 1) m end) ≡ meval ρ m
     unfolding peval
-    unit-is m = add-nil (int (pos 1) * meval ρ m) ∙ ap (λ t. t * meval ρ m) int-one ∙ RL.one-mul R (meval ρ m)
+    unit-is m = add-nil (int (pos 1) * meval ρ m) ∙ ap (λ t. t * meval ρ m) (int-pos 1 ∙ RL.nat-one R) ∙ RL.one-mul R (meval ρ m)
+
+    num-is : (k : ℕ) → peval (tidy (pos k) [] end) ≡ RL.nat R k
+    unfolding peval meval
+    num-is k = tidy-is (pos k) [] end ∙ add-nil (int (pos k) * 𝟙) ∙ mul-one (int (pos k)) ∙ int-pos k
+
+    ppow-is : (p : Poly) (k : ℕ) → peval (ppow p k) ≡ RL.pow R (peval p) k
+    unfolding RL.pow meval
+    ppow-is p zero = unit-is []
+    ppow-is p (suc k) = pmul-is (ppow p k) p ∙ ap (λ t. t * peval p) (ppow-is p k)
 
     nf-is : (e : Expr) → peval (nf e) ≡ eval ρ e
     unfolding peval meval
     nf-is (var i) = unit-is (mvar i) ∙ meval-var ρ i
     nf-is nil = refl
     nf-is unit = unit-is []
+    nf-is (num k) = num-is k
     nf-is (a ⊕ b) = padd-is (nf a) (nf b) ∙ ap₂ _+_ (nf-is a) (nf-is b)
     nf-is (a ⊖ b) = padd-is (nf a) (pneg (nf b)) ∙ ap₂ _+_ (nf-is a) (pneg-is (nf b) ∙ ap -_ (nf-is b))
     nf-is (a ⊗ b) = pmul-is (nf a) (nf b) ∙ ap₂ _*_ (nf-is a) (nf-is b)
     nf-is (⊝ a) = pneg-is (nf a) ∙ ap -_ (nf-is a)
+    nf-is (a ⊛ k) = ppow-is (nf a) k ∙ ap (λ t. RL.pow R t k) (nf-is a)
 
     end-is : (p : Poly) → T (isEnd p) → peval p ≡ 𝟘
     unfolding peval
@@ -295,25 +291,3 @@ module _ {A : Type 0} (R : CRing A) where
   pub solve : (ρ : List A) (a b : Expr) → T (isEnd (nf (a ⊖ b))) → eval ρ a ≡ eval ρ b
   solve ρ a b t =
       RL.sub-nil R (eval ρ a) (eval ρ b) (sym (nf-is ρ (a ⊖ b)) ∙ end-is ρ (nf (a ⊖ b)) t)
-
-  -- the front end: `ring R (a ∷ b ∷ []) (λ x y. x ⊗ y ≗ y ⊗ x) tt`
-  abbrev pub Goal : List A → Eqn → Type 0
-  Goal ρ (l ≗ r) = eval ρ l ≡ eval ρ r
-
-  ring-eqn : (ρ : List A) (q : Eqn) → T (holds q) → Goal ρ q
-  ring-eqn ρ (l ≗ r) t = solve ρ l r t
-
-  pub ring : (ρ : List A) (f : Fn Eqn ρ) → T (holds (close ρ 0 f)) → Goal ρ (close ρ 0 f)
-  ring ρ f t = ring-eqn ρ (close ρ 0 f) t
-
-  -- from an equation h, with a cofactor c: l − r = c (hl − hr)
-  from-eqn : (ρ : List A) (h : Eqn) (c : Expr) (q : Eqn) → Goal ρ h → T (holdsBy h c q) → Goal ρ q
-  from-eqn ρ (hl ≗ hr) c (l ≗ r) e t =
-      RL.sub-nil R (eval ρ l) (eval ρ r)
-      (solve ρ (l ⊖ r) (c ⊗ (hl ⊖ hr)) t
-      ∙ ap (λ x. eval ρ c * (x + - eval ρ hr)) e
-      ∙ ap (λ x. eval ρ c * x) (add-neg (eval ρ hr))
-      ∙ RL.mul-nil R (eval ρ c))
-
-  pub ring-by : (ρ : List A) (h : Fn Eqn ρ) (c : Fn Expr ρ) (f : Fn Eqn ρ) → Goal ρ (close ρ 0 h) → T (holdsBy (close ρ 0 h) (close ρ 0 c) (close ρ 0 f)) → Goal ρ (close ρ 0 f)
-  ring-by ρ h c f e t = from-eqn ρ (close ρ 0 h) (close ρ 0 c) (close ρ 0 f) e t

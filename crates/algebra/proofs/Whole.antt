@@ -1,13 +1,13 @@
 -- The ring laws of lib.IntN's ℤ, by reading each integer as a difference up − down of naturals.
-use mathlib.Core.Path.{_≡_, refl, sym, _∙_, ap, ap₂, subst}
+use mathlib.Core.Path.{_≡_, refl, ap}
 use mathlib.Core.Bool.{Bool, true, false, not, cond}
 use Prim.Native.Nat.{ℕ, zero, suc, _+_, _*_, _-_, _<_, _≤_}
 use native.Mathlib.Omega.{arith}
 use lib.Dec.{T, ltb, ltb→lt, nltb→le}
 use native.Mathlib.Nat.{eq-of-mul-eq-mul-right}
-use mathlib.Core.Logic.{_≢_}
+use mathlib.Core.Logic.{_≢_, _⊎_, inl, inr}
 use Rattle.algebra.proofs.Ring.{CRing, Domain}
-use lib.IntN.{ℤ, ℤ-set, ℤ-discrete, pos, negsuc, negℤ, subℕ, _+ℤ_, _-ℤ_, _*ℤ_, natAbs, +ℤ-assoc, +ℤ-comm, +ℤ-idl, +ℤ-idr, +ℤ-invr, *ℤ-comm, *ℤ-one, zero-*ℤ}
+use lib.IntN.{ℤ, ℤ-set, ℤ-discrete, pos, negsuc, negℤ, subℕ, _+ℤ_, _*ℤ_, natAbs, +ℤ-assoc, +ℤ-comm, +ℤ-idr, +ℤ-invr, *ℤ-comm, *ℤ-one}
 
 unfoldable pub up : ℤ → ℕ
 up (pos n) = n
@@ -16,22 +16,6 @@ up (negsuc n) = 0
 unfoldable pub dn : ℤ → ℕ
 dn (pos n) = 0
 dn (negsuc n) = suc n
-
-pub up-pos : (n : ℕ) → up (pos n) ≡ n
-unfolding up
-up-pos n = refl
-
-pub dn-pos : (n : ℕ) → dn (pos n) ≡ 0
-unfolding dn
-dn-pos n = refl
-
-pub up-neg : (n : ℕ) → up (negsuc n) ≡ 0
-unfolding up
-up-neg n = refl
-
-pub dn-neg : (n : ℕ) → dn (negsuc n) ≡ suc n
-unfolding dn
-dn-neg n = refl
 
 pub ext : (z w : ℤ) → up z + dn w ≡ up w + dn z → z ≡ w
 unfolding up dn
@@ -105,16 +89,44 @@ mul-cancel a b (pos zero) h e = absurd (h refl)
 mul-cancel a b (pos (suc n)) h e = ext a b (eq-of-mul-eq-mul-right (suc n) (omega arith) (up a + dn b) (up b + dn a) (omega (arith, mul-is a (pos (suc n)), mul-is b (pos (suc n)), ap up e, ap dn e)))
 mul-cancel a b (negsuc n) h e = ext a b (eq-of-mul-eq-mul-right (suc n) (omega arith) (up a + dn b) (up b + dn a) (omega (arith, mul-is a (negsuc n), mul-is b (negsuc n), ap up e, ap dn e)))
 
-pub no-zero-div : (a b : ℤ) → b ≢ pos 0 → a *ℤ b ≡ pos 0 → a ≡ pos 0
-no-zero-div a b h e = mul-cancel a (pos 0) b h (e ∙ sym (zero-*ℤ b))
+pub pos-inj : (m n : ℕ) → pos m ≡ pos n → m ≡ n
+pos-inj m n e = ap natAbs e
+
+pub pos-ne : (n : ℕ) → pos (suc n) ≢ pos 0
+pos-ne n e = let h : suc n ≡ 0 = pos-inj (suc n) 0 e in omega arith
 
 pub one-ne : pos 1 ≢ pos 0
-unfolding up
-one-ne e = let h : _≡_ {A = ℕ} 1 0 = ap up e in omega arith
+one-ne = pos-ne 0
 
 abbrev pub ℤ-domain : Domain ℤ
 ℤ-domain = record { ring = ℤ-ring; proper = one-ne; cancel = mul-cancel; discrete = ℤ-discrete }
 
-pub pos-ne : (n : ℕ) → pos (suc n) ≢ pos 0
-unfolding up
-pos-ne n e = let h : suc n ≡ 0 = ap up e in omega arith
+-- the size of a product, of a negative, of zero
+pub abs-neg : (z : ℤ) → natAbs (negℤ z) ≡ natAbs z
+abs-neg (pos zero) = refl
+abs-neg (pos (suc n)) = refl
+abs-neg (negsuc n) = refl
+
+pub abs-mul : (a b : ℤ) → natAbs (a *ℤ b) ≡ natAbs a * natAbs b
+abs-mul (pos a) (pos b) = refl
+abs-mul (pos a) (negsuc b) = abs-neg (pos (a * suc b))
+abs-mul (negsuc a) (pos b) = abs-neg (pos (suc a * b))
+abs-mul (negsuc a) (negsuc b) = refl
+
+pub abs-nil : (z : ℤ) → natAbs z ≡ 0 → z ≡ pos 0
+abs-nil (pos n) e = ap pos e
+abs-nil (negsuc n) e = absurd (omega arith)
+
+pub abs-above : (z : ℤ) → z ≢ pos 0 → 0 < natAbs z
+abs-above (pos zero) h = absurd (h refl)
+abs-above (pos (suc n)) h = omega arith
+abs-above (negsuc n) h = omega arith
+
+-- a number is its size with a sign
+pub abs-sign : (z : ℤ) → (z ≡ pos (natAbs z)) ⊎ (z ≡ negℤ (pos (natAbs z)))
+abs-sign (pos n) = inl refl
+abs-sign (negsuc n) = inr refl
+
+pub abs-square : (z : ℤ) → z *ℤ z ≡ pos (natAbs z * natAbs z)
+abs-square (pos n) = refl
+abs-square (negsuc n) = refl

@@ -1,7 +1,6 @@
 -- The greatest common divisor of two whole numbers, with its cofactors.
-use mathlib.Core.Path.{_≡_, refl, sym, _∙_, ap, ap₂, subst, fun-ext}
-use mathlib.Core.List.{List, [], _∷_}
-use Prim.Native.Nat.{ℕ, zero, suc, _≤_, _<_, _/_, _%_}
+use mathlib.Core.Path.{sym, ap}
+use Prim.Native.Nat.{ℕ, zero, suc, _<_, _/_, _%_}
 use native.Mathlib.Omega.{arith}
 use native.Mathlib.Nat.{div-add-mod, mod-lt}
 use lib.IntN.{ℤ, pos, negsuc}
