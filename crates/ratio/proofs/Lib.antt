@@ -5,4 +5,5 @@ pub mod Checked
 pub mod Fractions
 pub mod Models
 pub mod Compared
+pub mod Lowest
 pub mod Answers
