@@ -7,3 +7,4 @@ pub mod Models
 pub mod Compared
 pub mod Lowest
 pub mod Answers
+pub mod Steps

@@ -192,7 +192,8 @@ fn reduce(n: i64, d: i64) -> Ratio
     let m = magnitude(n);
     let k = magnitude(d);
     let g = gcd(m, k);
-    let num = signed(is_neg(n) != is_neg(d), m / g);
+    let below = is_neg(n) != is_neg(d);
+    let num = signed(below, m / g);
     Ratio {
         num,
         den: signed(false, k / g),
