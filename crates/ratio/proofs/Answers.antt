@@ -1,16 +1,13 @@
 -- The promises of the models: when each is answered, and which rational the answer is.
 use mathlib.Core.Path.{_≡_, refl, sym, ap, ap₂, subst, _∙_}
 use mathlib.Core.Bool.{Bool, true, false, not}
-use mathlib.Core.Logic.{_⊎_, inl, inr}
-use Prim.Native.Nat.{ℕ, _<_, _≤_, _∣_}
+use Prim.Native.Nat.{ℕ, _∣_}
 use native.Mathlib.Nat.{eq-one-of-dvd-one}
 use native.Mathlib.Omega.{arith}
-use borrow.Author.Tests.{leb-true, le-leb, not-true, not-false, eqb-true, eq-eqb}
-use lib.Dec.{T}
+use borrow.Author.Tests.{leb-true, le-leb, not-true, eqb-true, eq-eqb}
 use lib.IntN.{ℤ, pos, negsuc, negℤ, natAbs, _+ℤ_, _-ℤ_, _*ℤ_}
 use lib.Signed.{ltZ, _<ℤ_}
 use Rattle.algebra.specs.Rational.{Rat, Same, addQ, subQ, mulQ, negQ, over}
-use Rattle.algebra.specs.Rational as Q
 use Rattle.algebra.proofs.Rational.{same-trans}
 use Rattle.algebra.proofs.WholeOrder.{Three, less, same, more, compareℤ, lt-true, lt-false}
 use Rattle.ratio.specs.Range.{limit, Within, within}
@@ -22,13 +19,13 @@ use Rattle.ratio.specs.declared.Ratio.{Ratio}
 use Rattle.ratio.specs.declared.Reason.{Reason}
 use Rattle.ratio.specs.declared.Reason.the-variants.{NotPolynomial, CoeffOverflow, DivByZero, TooLong, BadInput, Malformed, Budget, TooDeep, NoRoom}
 use Rattle.ratio.specs.declared.Step.{Step}
-use Rattle.ratio.specs.declared.Step.the-variants.{Done, Refused}
+use Rattle.ratio.specs.declared.Step.the-variants.{Done}
 use Rattle.ratio.specs.declared.Order.{Order}
-use Rattle.ratio.specs.declared.Order.the-variants.{Less, Equal, Greater, Unordered}
+use Rattle.ratio.specs.declared.Order.the-variants.{Less, Equal, Greater}
 use Rattle.ratio.proofs.Words.{pos-neg}
 use Rattle.ratio.proofs.Euclid.{is-gcd}
 use Rattle.ratio.proofs.Fractions.{and-true, fraction-of, fraction-is, nil-some, some-nil, neg-fraction, inv-fraction, product-fraction}
-use Rattle.ratio.proofs.Models.{new-yes, add-yes, mul-yes, neg-yes, inv-yes}
+use Rattle.ratio.proofs.Models.{new-yes, mul-yes, neg-yes, inv-yes}
 use Rattle.ratio.proofs.Lowest.{lowest-same, lowest-lowest, over-add, over-sub, over-mul, over-neg, num-over, den-over}
 
 -- ---- a step that is answered has passed its tests

@@ -2,18 +2,16 @@
 use mathlib.Core.Path.{_≡_, refl, sym, ap, ap₂, _∙_}
 use mathlib.Core.Bool.{Bool, true, false, not}
 use mathlib.Core.Logic.{_⊎_, inl, inr}
-use Prim.Native.Nat.{ℕ, zero, suc, _+_, _*_, _<_, _≤_, _^_, zero-le}
+use Prim.Native.Nat.{ℕ, zero, suc, _+_, _*_, _<_, _^_, zero-le}
 use native.Mathlib.Omega.{arith}
-use borrow.Author.Tests.{lt-ltb, le-ltb, ltb-true, ltb-false, eq-eqb, ne-eqb, eqb-true, eqb-false}
+use borrow.Author.Tests.{lt-ltb, le-ltb, ne-eqb}
 use lib.Dec.{ltb, eqb, leb·suc-suc}
-use lib.IntN.{ℤ, pos, negsuc, negℤ, natAbs, _*ℤ_}
+use lib.IntN.{pos, negℤ, natAbs, _*ℤ_}
 use lib.Signed.{ltZ}
 use Rattle.ratio.specs.Step.{signed, differ, isFraction, orderOf, pickOrder, cmpOf}
 use Rattle.ratio.specs.declared.Ratio.{Ratio}
-use Rattle.ratio.specs.declared.Order.{Order}
 use Rattle.ratio.specs.declared.Order.the-variants.{Less, Equal, Greater, Unordered}
 use Rattle.ratio.specs.declared.Reason.the-variants.{BadInput}
-use Rattle.ratio.proofs.Words.{pos-neg}
 
 -- ---- sizes
 

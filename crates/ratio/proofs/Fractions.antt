@@ -1,18 +1,14 @@
 -- The test of a fraction, and the steps of the models: what each answers along the tests.
-use mathlib.Core.Path.{_≡_, refl, sym, ap, ap₂, subst, _∙_}
-use mathlib.Core.Bool.{Bool, true, false, not, _&&_}
-use Prim.Native.Nat.{ℕ, zero, suc, _≤_, _<_, _*_}
+use mathlib.Core.Path.{_≡_, refl, ap}
+use mathlib.Core.Bool.{Bool, true, false, _&&_}
+use Prim.Native.Nat.{ℕ, _<_}
 use native.Mathlib.Omega.{arith}
-use borrow.Author.Tests.{leb-true, eqb-true, eqb-false, le-leb, ne-eqb, eq-eqb, not-true}
-use lib.Dec.{leb, eqb}
-use lib.IntN.{ℤ, pos, negsuc, negℤ, natAbs, _+ℤ_, _*ℤ_}
+use borrow.Author.Tests.{leb-true, eqb-false, le-leb, ne-eqb, not-true}
+use lib.IntN.{ℤ, pos, negsuc, negℤ, natAbs, _*ℤ_}
 use Rattle.ratio.specs.Range.{limit, Within, within}
-use Rattle.ratio.specs.Step.{isNil, isFraction, lowest, addOf, mulOf}
+use Rattle.ratio.specs.Step.{isNil, isFraction}
 use Rattle.ratio.specs.Promise.{Fraction}
 use Rattle.ratio.specs.declared.Ratio.{Ratio}
-use Rattle.ratio.specs.declared.Step.{Step}
-use Rattle.ratio.specs.declared.Step.the-variants.{Done, Refused}
-use Rattle.ratio.specs.declared.Reason.the-variants.{CoeffOverflow, BadInput}
 use native.Mathlib.Nat.{mul-pos}
 use Rattle.ratio.proofs.Words.{size-above, neg-within}
 use Rattle.ratio.proofs.Checked.{abs-mul, within-copied}

@@ -1,5 +1,5 @@
 -- The product of two numbers by half words, each below 2^32.
-use mathlib.Core.Path.{_≡_, refl, sym, ap, ap₂, _∙_}
+use mathlib.Core.Path.{_≡_, refl, sym, ap, ap₂}
 use mathlib.Core.Bool.{Bool, true, false}
 use mathlib.Core.Logic.{_⊎_, inl, inr}
 use Prim.Native.Nat.{ℕ, _+_, _*_, _/_, _%_, _<_, _≤_, _^_}
@@ -9,7 +9,6 @@ use borrow.Author.Tests.{le-leb, lt-leb, leb-true, leb-false}
 use lib.Dec.{leb}
 use Rattle.ratio.specs.Range.{limit}
 use Rattle.ratio.specs.Number.{productOf, pickProduct}
-use Rattle.ratio.specs.declared.Product.{Product}
 use Rattle.ratio.specs.declared.Product.the-variants.{Is, TooLarge}
 
 pub bound : (a b k m : ℕ) → a ≤ k → b ≤ m → a * b ≤ k * m

@@ -1,27 +1,24 @@
 -- Laws of `lowest`: it is the same rational, and in lowest terms. Fractions of whole numbers as the textbook's rationals.
 use mathlib.Core.Path.{_≡_, refl, sym, ap, ap₂, subst, _∙_}
-use mathlib.Core.Bool.{Bool, true, false}
 use mathlib.Core.Logic.{_≢_}
-use Prim.Native.Nat.{ℕ, zero, suc, _*_, _/_, _<_, _≤_, _∣_, suc-le-suc, zero-le}
+use Prim.Native.Nat.{ℕ, zero, suc, _*_, _/_, _<_, _∣_}
 use native.Mathlib.Nat.{div-mul-cancel, div-le-self, pos-of-dvd-of-pos, dvd-mul-right}
 use native.Mathlib.Omega.{arith}
 use borrow.Author.Tests.{lt-ltb}
 use lib.Dec.{T}
 use lib.IntN.{ℤ, pos, negsuc, negℤ, natAbs, _+ℤ_, _-ℤ_, _*ℤ_}
-use lib.Signed.{ltZ, _<ℤ_, ltZ-yes}
-use Rattle.algebra.specs.Rational.{Rat, Same, addQ, subQ, mulQ, negQ, over}
+use lib.Signed.{ltZ, _<ℤ_}
+use Rattle.algebra.specs.Rational.{Same, addQ, subQ, mulQ, negQ, over}
 use Rattle.algebra.proofs.Ring.{neg-mul, mul-ne}
 use Rattle.algebra.proofs.Whole.{ℤ-ring, ℤ-domain}
-use Rattle.algebra.proofs.Fraction.{fr, fr-add, fr-mul, fr-neg}
+use Rattle.algebra.proofs.Fraction.{fr-add, fr-mul, fr-neg}
 use Rattle.algebra.proofs.Rational.{val, val-over, val-add, val-mul, val-neg, val-sub, same-val, _+ℚ_, _*ℚ_, -ℚ_}
 use Rattle.algebra.proofs.NaturalGcd.{Greatest, greatest-quotients}
 use Rattle.algebra.proofs.Lowest.{LowestTerms, lowest-by}
-use Rattle.ratio.specs.Range.{limit, Within}
 use Rattle.ratio.specs.Gcd.{gcdOf}
 use Rattle.ratio.specs.Step.{signed, differ, facing, lowest}
 use Rattle.ratio.specs.Promise.{rat, Fraction, Lowest}
-use Rattle.ratio.specs.declared.Ratio.{Ratio}
-use Rattle.ratio.proofs.Words.{pos-neg, abs-neg, abs-signed, size-above}
+use Rattle.ratio.proofs.Words.{pos-neg, abs-signed, size-above}
 use Rattle.ratio.proofs.Euclid.{is-gcd, gcd-above}
 use Rattle.ratio.proofs.Compared.{signed-mul}
 

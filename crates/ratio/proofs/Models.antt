@@ -1,6 +1,6 @@
 -- What the models answer along their tests.
-use mathlib.Core.Path.{_≡_, refl, sym, ap, _∙_}
-use mathlib.Core.Bool.{Bool, true, false, not}
+use mathlib.Core.Path.{_≡_, refl}
+use mathlib.Core.Bool.{Bool, true, false}
 use lib.IntN.{ℤ, negℤ, _+ℤ_, _*ℤ_}
 use Rattle.ratio.proofs.Words.{abs-neg}
 use Rattle.algebra.proofs.Ring.{neg-mul}
@@ -8,7 +8,6 @@ use Rattle.algebra.proofs.Whole.{ℤ-ring}
 use Rattle.ratio.specs.Range.{within}
 use Rattle.ratio.specs.Step.{isNil, isFraction, lowest, newOf, addOf, subOf, mulOf, negOf, invOf}
 use Rattle.ratio.specs.declared.Ratio.{Ratio}
-use Rattle.ratio.specs.declared.Step.{Step}
 use Rattle.ratio.specs.declared.Step.the-variants.{Done, Refused}
 use Rattle.ratio.specs.declared.Reason.the-variants.{CoeffOverflow, DivByZero, BadInput}
 

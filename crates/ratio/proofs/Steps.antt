@@ -1,24 +1,23 @@
 -- What the crates above cite of the steps: the value of an answer, its form, and which refusals there are.
 use mathlib.Core.Path.{_≡_, refl, sym, ap, ap₂, subst, _∙_}
-use mathlib.Core.Bool.{Bool, true, false, not}
+use mathlib.Core.Bool.{Bool, true, false}
 use mathlib.Core.Logic.{_⊎_, inl, inr, _≢_}
-use Prim.Native.Nat.{ℕ, zero, suc, _<_, _≤_, _∣_, suc-le-suc, zero-le}
+use Prim.Native.Nat.{ℕ, zero, suc}
 use native.Mathlib.Omega.{arith}
 use native.Mathlib.Nat.{eq-one-of-dvd-one}
 use borrow.Author.Tests.{eqb-true}
 use lib.IntN.{ℤ, pos, negsuc, negℤ, natAbs, _+ℤ_, _-ℤ_, _*ℤ_}
 use lib.Signed.{_<ℤ_}
-use Rattle.algebra.specs.Rational.{Rat, Same, zeroQ, oneQ, addQ, subQ, mulQ, negQ, over}
+use Rattle.algebra.specs.Rational.{Rat, Same, addQ, subQ, mulQ, negQ, over}
 use Rattle.algebra.proofs.Rational.{ℚ, _+ℚ_, _*ℚ_, -ℚ_, 0ℚ, 1ℚ, invℚ, val, val-same, val-add, val-sub, val-mul, val-neg, val-inv, val-zero, val-one, val-over, over-nil}
 use Rattle.algebra.proofs.Whole.{ℤ-domain}
 use Rattle.algebra.proofs.Fraction.{fr-nil}
 use Rattle.algebra.proofs.Lowest.{LowestTerms, lowest-unique}
-use Rattle.ratio.specs.Range.{Within, within}
+use Rattle.ratio.specs.Range.{within}
 use Rattle.ratio.specs.Refusal.{statusOf, ratioOf, zeroR}
-use Rattle.ratio.specs.Step.{isNil, isFraction, need, reduced, lowest, newOf, addOf, subOf, mulOf, negOf, invOf}
+use Rattle.ratio.specs.Step.{isNil, need, reduced, lowest, newOf, addOf, subOf, mulOf, negOf, invOf}
 use Rattle.ratio.specs.Promise.{rat, Fraction, Lowest, AddFits, SubFits, MulFits, InvFits, Answers}
 use Rattle.ratio.specs.declared.Ratio.{Ratio}
-use Rattle.ratio.specs.declared.Reason.{Reason}
 use Rattle.ratio.specs.declared.Reason.the-variants.{CoeffOverflow, DivByZero}
 use Rattle.ratio.specs.declared.Step.{Step}
 use Rattle.ratio.specs.declared.Step.the-variants.{Done, Refused}

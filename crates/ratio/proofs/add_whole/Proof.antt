@@ -1,9 +1,8 @@
 -- `ratio::add_whole` meets its contract.
 use mathlib.Core.Path.{_≡_, sym, ap, ap₂, _∙_}
-use mathlib.Core.Bool.{Bool}
-use Prim.Native.Nat.{ℕ, _+_, _-_, _<_, _≤_}
+use Prim.Native.Nat.{_+_, _-_}
 use native.Mathlib.Omega.{arith}
-use lib.IntN.{ℤ, natAbs, pos, _+ℤ_, +ℤ-comm}
+use lib.IntN.{natAbs, pos, _+ℤ_, +ℤ-comm}
 use lib.Signed.{ltZ}
 use Rattle.ratio.specs.Step as S
 use Rattle.ratio.proofs.Words.{copied-size, copied-neg, beq-true, beq-false, abs-signed}
@@ -11,11 +10,6 @@ use Rattle.ratio.proofs.Checked.{whole-over, whole-made, add-same, add-
 use borrow.Author.Needs.{needs}
 use Rattle.ratio.proofs.add_whole.Statement.{statement}
 use Rattle.ratio.proofs.add_whole.Tie as tie
-use Rattle.ratio.proofs.add_whole.Reads as reads
-use Rattle.ratio.proofs.add_whole.Lts as lts
-use Rattle.ratio.proofs.is_neg.Reads as is-neg-reads
-use Rattle.ratio.proofs.magnitude.Reads as magnitude-reads
-use Rattle.ratio.proofs.signed.Reads as signed-reads
 
 -- what the four calls say, of x and y
 record Parts (m : tie.After-is-neg2) : Type 0 where

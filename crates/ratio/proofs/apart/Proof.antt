@@ -1,5 +1,5 @@
 -- `ratio::apart` meets its contract.
-use mathlib.Core.Path.{_≡_, sym, ap, _∙_}
+use mathlib.Core.Path.{_≡_, sym, _∙_}
 use mathlib.Core.Logic.{_⊎_, inl, inr, ⊎-elim}
 use borrow.Author.Tests.{eqb-true, eqb-false}
 use Rattle.ratio.specs.Number.{wide}
@@ -7,9 +7,6 @@ use Rattle.ratio.proofs.Compared.{apart-nil, apart-less, apart-more}
 use borrow.Author.Needs.{needs}
 use Rattle.ratio.proofs.apart.Statement.{statement}
 use Rattle.ratio.proofs.apart.Tie as tie
-use Rattle.ratio.proofs.apart.Reads as reads
-use Rattle.ratio.proofs.apart.Lts as lts
-use Rattle.ratio.proofs.is_nothing.Reads as is-nothing-reads
 
 is-nothing-requires : tie.Need-is-nothing-requires
 is-nothing-requires c κs = search needs

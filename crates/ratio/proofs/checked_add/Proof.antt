@@ -1,8 +1,8 @@
 -- `ratio::checked_add` meets its contract: it takes the tests that `addOf` takes.
-use mathlib.Core.Path.{_≡_, refl, sym, ap, ap₂, _∙_}
-use mathlib.Core.Bool.{Bool, true, false, not}
+use mathlib.Core.Path.{_≡_, sym, ap, ap₂, _∙_}
+use mathlib.Core.Bool.{true}
 use borrow.Author.Tests.{not-true, not-false}
-use lib.IntN.{ℤ, _+ℤ_, _*ℤ_}
+use lib.IntN.{_+ℤ_, _*ℤ_}
 use Rattle.ratio.specs.Number.{wholeOf}
 use Rattle.ratio.specs.Step.{isFraction, lowest}
 use Rattle.ratio.specs.Promise.{Fraction}
@@ -14,12 +14,6 @@ use Rattle.ratio.proofs.Answers.{add-both}
 use borrow.Author.Needs.{needs}
 use Rattle.ratio.proofs.checked_add.Statement.{statement}
 use Rattle.ratio.proofs.checked_add.Tie as tie
-use Rattle.ratio.proofs.checked_add.Reads as reads
-use Rattle.ratio.proofs.checked_add.Lts as lts
-use Rattle.ratio.proofs.add_whole.Reads as add-whole-reads
-use Rattle.ratio.proofs.is_fraction.Reads as is-fraction-reads
-use Rattle.ratio.proofs.mul_whole.Reads as mul-whole-reads
-use Rattle.ratio.proofs.reduce.Reads as reduce-reads
 
 is-fraction-requires : tie.Need-is-fraction-requires
 is-fraction-requires c κs = search needs

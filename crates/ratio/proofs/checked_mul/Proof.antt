@@ -1,24 +1,19 @@
 -- `ratio::checked_mul` meets its contract: it takes the tests that `mulOf` takes.
-use mathlib.Core.Path.{_≡_, refl, sym, ap, ap₂, _∙_}
-use mathlib.Core.Bool.{Bool, true, false, not}
+use mathlib.Core.Path.{_≡_, sym, ap, ap₂, _∙_}
+use mathlib.Core.Bool.{true}
 use borrow.Author.Tests.{not-true, not-false}
-use lib.IntN.{ℤ, _+ℤ_, _*ℤ_}
+use lib.IntN.{_*ℤ_}
 use Rattle.ratio.specs.Number.{wholeOf}
 use Rattle.ratio.specs.Step.{isFraction, lowest}
 use Rattle.ratio.specs.Promise.{Fraction}
 use Rattle.ratio.specs.declared.Step.the-variants.{Done}
-use Rattle.ratio.proofs.Checked.{Told, told, told-over, mul-answer, add-answer, within-told}
+use Rattle.ratio.proofs.Checked.{Told, told, told-over, mul-answer}
 use Rattle.ratio.proofs.Fractions.{fraction-of, product-fraction, num-copied, den-copied}
 use Rattle.ratio.proofs.Models.{mul-no-a, mul-no-b, mul-no-upper, mul-no-lower, mul-yes}
 use Rattle.ratio.proofs.Answers.{mul-both}
 use borrow.Author.Needs.{needs}
 use Rattle.ratio.proofs.checked_mul.Statement.{statement}
 use Rattle.ratio.proofs.checked_mul.Tie as tie
-use Rattle.ratio.proofs.checked_mul.Reads as reads
-use Rattle.ratio.proofs.checked_mul.Lts as lts
-use Rattle.ratio.proofs.is_fraction.Reads as is-fraction-reads
-use Rattle.ratio.proofs.mul_whole.Reads as mul-whole-reads
-use Rattle.ratio.proofs.reduce.Reads as reduce-reads
 
 is-fraction-requires : tie.Need-is-fraction-requires
 is-fraction-requires c κs = search needs

@@ -11,10 +11,6 @@ use Rattle.ratio.proofs.Answers.{neg-both}
 use borrow.Author.Needs.{needs}
 use Rattle.ratio.proofs.checked_neg.Statement.{statement}
 use Rattle.ratio.proofs.checked_neg.Tie as tie
-use Rattle.ratio.proofs.checked_neg.Reads as reads
-use Rattle.ratio.proofs.checked_neg.Lts as lts
-use Rattle.ratio.proofs.is_fraction.Reads as is-fraction-reads
-use Rattle.ratio.proofs.reduce.Reads as reduce-reads
 
 is-fraction-requires : tie.Need-is-fraction-requires
 is-fraction-requires c κs = search needs

@@ -1,24 +1,17 @@
 -- `ratio::checked_sub` meets its contract.
-use mathlib.Core.Path.{_≡_, sym, ap, ap₂, _∙_}
+use mathlib.Core.Path.{_≡_, ap₂, _∙_}
 use mathlib.Core.Bool.{Bool, true, false}
-use lib.IntN.{ℤ, negℤ}
+use lib.IntN.{ℤ}
 use mir.Facts.{toZ-ofZ}
-use mir.Syntax.{w64}
-use mir.Val.{SFits}
 use borrow.Author.Tests.{leb-true}
 use Rattle.ratio.specs.Range.{limit, Within, within}
 use Rattle.ratio.specs.Step.{addOf}
-use Rattle.ratio.specs.declared.Ratio.{Ratio}
 use Rattle.ratio.proofs.Words.{copied-within, neg-fits, neg-back}
 use Rattle.ratio.proofs.Models.{sub-no, sub-is-add}
 use Rattle.ratio.proofs.Answers.{sub-both}
 use borrow.Author.Needs.{needs}
 use Rattle.ratio.proofs.checked_sub.Statement.{statement}
 use Rattle.ratio.proofs.checked_sub.Tie as tie
-use Rattle.ratio.proofs.checked_sub.Reads as reads
-use Rattle.ratio.proofs.checked_sub.Lts as lts
-use Rattle.ratio.proofs.checked_add.Reads as checked-add-reads
-use Rattle.ratio.proofs.in_range.Reads as in-range-reads
 
 in-range-requires : tie.Need-in-range-requires
 in-range-requires c κs = search needs

@@ -1,13 +1,11 @@
 -- `ratio::compare` meets its contract: by the two signs, then by the sizes of the cross products.
 use mathlib.Core.Path.{_≡_, sym, ap, ap₂, _∙_}
-use mathlib.Core.Bool.{Bool, true, false, not, Bool·beq}
+use mathlib.Core.Bool.{Bool, true}
 use borrow.Author.Tests.{not-true, not-false}
-use lib.IntN.{pos}
 use Rattle.ratio.specs.Number.{wide}
 use Rattle.ratio.specs.Step.{isFraction, orderOf}
 use Rattle.ratio.specs.Step as S
 use Rattle.ratio.specs.Promise.{Fraction}
-use Rattle.ratio.specs.declared.Order.{Order}
 use Rattle.ratio.proofs.Words.{beq-true, beq-not}
 use Rattle.ratio.proofs.Fractions.{fraction-of}
 use Rattle.ratio.proofs.Compared.{order-neg, cmp-no-a, cmp-no-b, cmp-yes}
@@ -15,13 +13,6 @@ use Rattle.ratio.proofs.Answers.{cmp-both}
 use borrow.Author.Needs.{needs}
 use Rattle.ratio.proofs.compare.Statement.{statement}
 use Rattle.ratio.proofs.compare.Tie as tie
-use Rattle.ratio.proofs.compare.Reads as reads
-use Rattle.ratio.proofs.compare.Lts as lts
-use Rattle.ratio.proofs.apart.Reads as apart-reads
-use Rattle.ratio.proofs.compare_wide.Reads as compare-wide-reads
-use Rattle.ratio.proofs.cross.Reads as cross-reads
-use Rattle.ratio.proofs.is_below.Reads as is-below-reads
-use Rattle.ratio.proofs.is_fraction.Reads as is-fraction-reads
 
 is-fraction-requires : tie.Need-is-fraction-requires
 is-fraction-requires c κs = search needs

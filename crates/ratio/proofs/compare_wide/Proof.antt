@@ -1,6 +1,6 @@
 -- `ratio::compare_wide` meets its contract: by the upper words, then by the lower.
 use mathlib.Core.Path.{_≡_}
-use Prim.Native.Nat.{ℕ, _<_, _≤_, _*_, _+_, _^_}
+use Prim.Native.Nat.{_<_, _^_}
 use native.Mathlib.Omega.{arith}
 use mir.Syntax.{w64}
 use mir.Val.{Fits}
@@ -8,8 +8,6 @@ use Rattle.ratio.specs.Number.{wide}
 use Rattle.ratio.proofs.Compared.{order-less, order-more, order-same, high-less}
 use Rattle.ratio.proofs.compare_wide.Statement.{statement}
 use Rattle.ratio.proofs.compare_wide.Tie as tie
-use Rattle.ratio.proofs.compare_wide.Reads as reads
-use Rattle.ratio.proofs.compare_wide.Lts as lts
 
 -- the lower words fit
 x-low : (k : tie.After-struct-known2) → k .before .before .args .x .low < 2 ^ 64

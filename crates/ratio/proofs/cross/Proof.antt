@@ -7,10 +7,6 @@ use Rattle.ratio.proofs.Words.{copied-size, fits}
 use borrow.Author.Needs.{needs}
 use Rattle.ratio.proofs.cross.Statement.{statement}
 use Rattle.ratio.proofs.cross.Tie as tie
-use Rattle.ratio.proofs.cross.Reads as reads
-use Rattle.ratio.proofs.cross.Lts as lts
-use Rattle.ratio.proofs.magnitude.Reads as magnitude-reads
-use Rattle.ratio.proofs.wide_product.Reads as wide-product-reads
 
 magnitude-requires : tie.Need-magnitude-requires
 magnitude-requires c κs = search needs

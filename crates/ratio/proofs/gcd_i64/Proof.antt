@@ -8,10 +8,6 @@ use Rattle.ratio.proofs.Euclid.{is-gcd}
 use borrow.Author.Needs.{needs}
 use Rattle.ratio.proofs.gcd_i64.Statement.{statement}
 use Rattle.ratio.proofs.gcd_i64.Tie as tie
-use Rattle.ratio.proofs.gcd_i64.Reads as reads
-use Rattle.ratio.proofs.gcd_i64.Lts as lts
-use Rattle.ratio.proofs.gcd.Reads as gcd-reads
-use Rattle.ratio.proofs.magnitude.Reads as magnitude-reads
 
 magnitude-requires : tie.Need-magnitude-requires
 magnitude-requires c κs = search needs

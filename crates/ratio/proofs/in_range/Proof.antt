@@ -2,8 +2,6 @@
 use Rattle.ratio.proofs.Words.{range-test}
 use Rattle.ratio.proofs.in_range.Statement.{statement}
 use Rattle.ratio.proofs.in_range.Tie as tie
-use Rattle.ratio.proofs.in_range.Reads as reads
-use Rattle.ratio.proofs.in_range.Lts as lts
 
 returns : tie.Need-returns
 returns c = range-test (c .args .x) (c .fits .x)

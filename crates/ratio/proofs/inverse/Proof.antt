@@ -12,10 +12,6 @@ use Rattle.ratio.proofs.Answers.{inv-both}
 use borrow.Author.Needs.{needs}
 use Rattle.ratio.proofs.inverse.Statement.{statement}
 use Rattle.ratio.proofs.inverse.Tie as tie
-use Rattle.ratio.proofs.inverse.Reads as reads
-use Rattle.ratio.proofs.inverse.Lts as lts
-use Rattle.ratio.proofs.is_fraction.Reads as is-fraction-reads
-use Rattle.ratio.proofs.reduce.Reads as reduce-reads
 
 is-fraction-requires : tie.Need-is-fraction-requires
 is-fraction-requires c κs = search needs

@@ -1,13 +1,10 @@
 -- `ratio::is_below` meets its contract.
-use mathlib.Core.Path.{_≡_, ap₂, _∙_}
+use mathlib.Core.Path.{ap₂, _∙_}
 use Rattle.ratio.specs.Step.{differ}
 use Rattle.ratio.proofs.Words.{differ-is, copied-neg}
 use borrow.Author.Needs.{needs}
 use Rattle.ratio.proofs.is_below.Statement.{statement}
 use Rattle.ratio.proofs.is_below.Tie as tie
-use Rattle.ratio.proofs.is_below.Reads as reads
-use Rattle.ratio.proofs.is_below.Lts as lts
-use Rattle.ratio.proofs.is_neg.Reads as is-neg-reads
 
 is-neg-requires : tie.Need-is-neg-requires
 is-neg-requires c κs = search needs

@@ -6,9 +6,6 @@ use Rattle.ratio.proofs.Words.{copied-within, nil-test}
 use borrow.Author.Needs.{needs}
 use Rattle.ratio.proofs.is_fraction.Statement.{statement}
 use Rattle.ratio.proofs.is_fraction.Tie as tie
-use Rattle.ratio.proofs.is_fraction.Reads as reads
-use Rattle.ratio.proofs.is_fraction.Lts as lts
-use Rattle.ratio.proofs.in_range.Reads as in-range-reads
 
 in-range-requires : tie.Need-in-range-requires
 in-range-requires c κs = search needs

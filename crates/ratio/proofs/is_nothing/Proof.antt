@@ -2,8 +2,6 @@
 use Rattle.ratio.proofs.Compared.{nothing-low, nothing-high}
 use Rattle.ratio.proofs.is_nothing.Statement.{statement}
 use Rattle.ratio.proofs.is_nothing.Tie as tie
-use Rattle.ratio.proofs.is_nothing.Reads as reads
-use Rattle.ratio.proofs.is_nothing.Lts as lts
 
 returns : tie.Need-returns
 returns c =

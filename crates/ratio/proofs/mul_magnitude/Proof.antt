@@ -1,7 +1,7 @@
 -- `ratio::mul_magnitude` meets its contract: the product by half words.
 use mathlib.Core.Path.{_≡_}
 use mathlib.Core.Logic.{_⊎_, inl, inr, ⊎-elim}
-use Prim.Native.Nat.{_+_, _*_, _/_, _%_, _<_, _≤_}
+use Prim.Native.Nat.{_*_, _/_, _%_}
 use native.Mathlib.Omega.{arith}
 use borrow.Author.Needs.{needs}
 use Rattle.ratio.proofs.Halves.{halves, bound, too-large, is-product}

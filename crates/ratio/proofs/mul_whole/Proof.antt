@@ -1,9 +1,9 @@
 -- `ratio::mul_whole` meets its contract.
 use mathlib.Core.Path.{_≡_, sym, ap, ap₂, _∙_}
-use mathlib.Core.Bool.{Bool, not, Bool·beq}
-use Prim.Native.Nat.{ℕ, _*_, _≤_}
+use mathlib.Core.Bool.{not, Bool·beq}
+use Prim.Native.Nat.{_*_, _≤_}
 use native.Mathlib.Omega.{arith}
-use lib.IntN.{ℤ, natAbs, pos, _*ℤ_}
+use lib.IntN.{natAbs, pos, _*ℤ_}
 use lib.Signed.{ltZ}
 use Rattle.ratio.specs.Range.{limit}
 use Rattle.ratio.specs.Number.{productOf}
@@ -14,12 +14,6 @@ use Rattle.ratio.proofs.Checked.{abs-mul, mul-signed, whole-over, whole
 use borrow.Author.Needs.{needs}
 use Rattle.ratio.proofs.mul_whole.Statement.{statement}
 use Rattle.ratio.proofs.mul_whole.Tie as tie
-use Rattle.ratio.proofs.mul_whole.Reads as reads
-use Rattle.ratio.proofs.mul_whole.Lts as lts
-use Rattle.ratio.proofs.is_neg.Reads as is-neg-reads
-use Rattle.ratio.proofs.magnitude.Reads as magnitude-reads
-use Rattle.ratio.proofs.mul_magnitude.Reads as mul-magnitude-reads
-use Rattle.ratio.proofs.signed.Reads as signed-reads
 
 magnitude-requires : tie.Need-magnitude-requires
 magnitude-requires c κs = search needs

@@ -1,28 +1,20 @@
 -- `ratio::reduce` meets its contract.
-use mathlib.Core.Path.{_≡_, sym, ap, ap₂, _∙_}
-use mathlib.Core.Bool.{Bool, false, not, Bool·beq}
-use Prim.Native.Nat.{ℕ, _/_, _<_, _≤_}
+use mathlib.Core.Path.{_≡_, ap, ap₂, _∙_}
+use mathlib.Core.Bool.{false, not, Bool·beq}
+use Prim.Native.Nat.{_/_, _<_, _≤_}
 use native.Mathlib.Nat.{div-le-self}
 use native.Mathlib.Omega.{arith}
 use lib.IntN.{ℤ, natAbs, pos}
 use lib.Signed.{ltZ}
-use mir.Facts.{toZ-ofZ}
 use Rattle.ratio.specs.Range.{limit}
 use Rattle.ratio.specs.Gcd.{gcdOf}
 use Rattle.ratio.specs.Step.{lowest, differ}
 use Rattle.ratio.specs.Step as S
-use Rattle.ratio.specs.declared.Ratio.{Ratio}
 use Rattle.ratio.proofs.Words.{copied-size, copied-neg, differ-is, signed-read, size-above}
 use Rattle.ratio.proofs.Euclid.{gcd-above}
 use borrow.Author.Needs.{needs}
 use Rattle.ratio.proofs.reduce.Statement.{statement}
 use Rattle.ratio.proofs.reduce.Tie as tie
-use Rattle.ratio.proofs.reduce.Reads as reads
-use Rattle.ratio.proofs.reduce.Lts as lts
-use Rattle.ratio.proofs.gcd.Reads as gcd-reads
-use Rattle.ratio.proofs.is_neg.Reads as is-neg-reads
-use Rattle.ratio.proofs.magnitude.Reads as magnitude-reads
-use Rattle.ratio.proofs.signed.Reads as signed-reads
 
 magnitude-requires : tie.Need-magnitude-requires
 magnitude-requires c κs = search needs

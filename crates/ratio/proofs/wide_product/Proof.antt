@@ -1,14 +1,12 @@
 -- `ratio::wide_product` meets its contract: the product in base 2^32.
-use mathlib.Core.Path.{_≡_, sym, ap₂, _∙_}
-use Prim.Native.Nat.{_+_, _*_, _/_, _%_, _<_, _≤_}
+use mathlib.Core.Path.{ap₂, _∙_}
+use Prim.Native.Nat.{_+_, _*_, _/_, _%_}
 use native.Mathlib.Nat.{div-add-mod'}
 use native.Mathlib.Omega.{arith}
 use Rattle.ratio.proofs.Halves.{bound, carry, wide-is}
 use borrow.Author.Needs.{needs}
 use Rattle.ratio.proofs.wide_product.Statement.{statement}
 use Rattle.ratio.proofs.wide_product.Tie as tie
-use Rattle.ratio.proofs.wide_product.Reads as reads
-use Rattle.ratio.proofs.wide_product.Lts as lts
 
 mul-low : tie.Need-mul-low
 mul-low c = omega (arith, bound (c .args .a % 4294967296) (c .args .b % 4294967296) 4294967295 4294967295 (omega arith) (omega arith))

@@ -1,6 +1,6 @@
 -- `ratio::Ratio::is_lowest` meets its contract.
-use mathlib.Core.Path.{_≡_, refl, sym, ap, ap₂, _∙_}
-use mathlib.Core.Bool.{Bool, true, false}
+use mathlib.Core.Path.{_≡_, sym, ap, ap₂, _∙_}
+use mathlib.Core.Bool.{true}
 use lib.Dec.{eqb}
 use lib.IntN.{ℤ, pos, natAbs}
 use lib.Signed.{ltZ}
@@ -14,10 +14,6 @@ use Rattle.ratio.proofs.Answers.{lowest-both}
 use borrow.Author.Needs.{needs}
 use Rattle.ratio.proofs.Ratio.is_lowest.Statement.{statement}
 use Rattle.ratio.proofs.Ratio.is_lowest.Tie as tie
-use Rattle.ratio.proofs.Ratio.is_lowest.Reads as reads
-use Rattle.ratio.proofs.Ratio.is_lowest.Lts as lts
-use Rattle.ratio.proofs.gcd_i64.Reads as gcd-i64-reads
-use Rattle.ratio.proofs.is_fraction.Reads as is-fraction-reads
 
 is-fraction-requires : tie.Need-is-fraction-requires
 is-fraction-requires c κs = search needs

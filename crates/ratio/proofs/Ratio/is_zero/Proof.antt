@@ -2,8 +2,6 @@
 use Rattle.ratio.proofs.Words.{nil-test}
 use Rattle.ratio.proofs.Ratio.is_zero.Statement.{statement}
 use Rattle.ratio.proofs.Ratio.is_zero.Tie as tie
-use Rattle.ratio.proofs.Ratio.is_zero.Reads as reads
-use Rattle.ratio.proofs.Ratio.is_zero.Lts as lts
 
 returns : tie.Need-returns
 returns c = nil-test (c .before .before .args .self .num) (record { sfits = c .struct-told .given .0 .1 })

@@ -1,10 +1,8 @@
 -- `ratio::Ratio::new` meets its contract.
 use mathlib.Core.Path.{_≡_, sym, ap, ap₂, _∙_}
-use mathlib.Core.Bool.{Bool, true, false}
 use lib.IntN.{ℤ}
 use mir.Facts.{toZ-ofZ}
 use Rattle.ratio.specs.Step.{isFraction, lowest}
-use Rattle.ratio.specs.declared.Ratio.{Ratio}
 use Rattle.ratio.specs.declared.Step.the-variants.{Done}
 use Rattle.ratio.proofs.Fractions.{fraction-of}
 use Rattle.ratio.proofs.Models.{new-no, new-yes}
@@ -12,10 +10,6 @@ use Rattle.ratio.proofs.Answers.{new-both}
 use borrow.Author.Needs.{needs}
 use Rattle.ratio.proofs.Ratio.new.Statement.{statement}
 use Rattle.ratio.proofs.Ratio.new.Tie as tie
-use Rattle.ratio.proofs.Ratio.new.Reads as reads
-use Rattle.ratio.proofs.Ratio.new.Lts as lts
-use Rattle.ratio.proofs.is_fraction.Reads as is-fraction-reads
-use Rattle.ratio.proofs.reduce.Reads as reduce-reads
 
 is-fraction-requires : tie.Need-is-fraction-requires
 is-fraction-requires c κs = search needs
