@@ -9,7 +9,7 @@ use borrow.Author.Tests.{eqb-true}
 use lib.IntN.{ℤ, pos, negsuc, negℤ, natAbs, _+ℤ_, _-ℤ_, _*ℤ_}
 use lib.Signed.{_<ℤ_}
 use Rattle.algebra.specs.Rational.{Rat, Same, addQ, subQ, mulQ, negQ, over}
-use Rattle.algebra.proofs.Rational.{ℚ, _+ℚ_, _*ℚ_, -ℚ_, 0ℚ, 1ℚ, invℚ, val, val-same, val-add, val-sub, val-mul, val-neg, val-inv, val-zero, val-one, val-over, over-nil}
+use Rattle.algebra.proofs.Rational.{ℚ, _+ℚ_, _*ℚ_, -ℚ_, 0ℚ, 1ℚ, invℚ, val, val-same, same-val, val-add, val-sub, val-mul, val-neg, val-inv, val-zero, val-one, val-over, over-nil}
 use Rattle.algebra.proofs.Whole.{ℤ-domain}
 use Rattle.algebra.proofs.Fraction.{fr-nil}
 use Rattle.algebra.proofs.Lowest.{LowestTerms, lowest-unique}
@@ -21,7 +21,9 @@ use Rattle.ratio.specs.declared.Ratio.{Ratio}
 use Rattle.ratio.specs.declared.Reason.the-variants.{CoeffOverflow, DivByZero}
 use Rattle.ratio.specs.declared.Step.{Step}
 use Rattle.ratio.specs.declared.Step.the-variants.{Done, Refused}
-use Rattle.ratio.proofs.Fractions.{fraction-is, some-nil, nil-some, no-size}
+use Rattle.ratio.proofs.Fractions.{fraction-is, some-nil, nil-some, no-size, neg-fraction}
+use Rattle.ratio.proofs.Words.{abs-neg}
+use Rattle.ratio.proofs.Lowest.{over-neg}
 use Rattle.ratio.proofs.Models.{new-yes, neg-yes, inv-yes, inv-nil}
 use Rattle.ratio.proofs.Answers.{add-answers, sub-answers, mul-answers, neg-answers, inv-answers, new-answers}
 
@@ -189,3 +191,18 @@ nil-value r f e = val-over (r .num) (r .den) (f .den-some) ∙ fr-nil ℤ-domain
 
 pub some-value : (r : Ratio) → Fraction r → isNil (r .num) ≡ false → value r ≢ 0ℚ
 some-value r f e p = nil-some (r .num) e (over-nil (r .num) (r .den) (f .den-some) p)
+
+-- ---- values of fractions in lowest terms
+
+pub value-equal : (a b : Ratio) → Lowest a → Lowest b → value a ≡ value b → a ≡ b
+value-equal a b la lb e = lowest-equal a b la lb (same-val (rat a) (rat b) e)
+
+pub neg-lowest : (a : Ratio) → Lowest a → Lowest (record { num = negℤ (a .num); den = a .den })
+neg-lowest a l = record { fraction = neg-fraction a (l .fraction); above = l .above; coprime = rw (abs-neg (a .num)) (l .coprime) }
+
+-- the negative of a fraction in lowest terms only changes its sign
+pub neg-kept : (a : Ratio) → Lowest a → negOf a ≡ Done (record { num = negℤ (a .num); den = a .den })
+neg-kept a l =
+    let e = neg-is a (l .fraction) in
+    let r : Ratio = record { num = negℤ (a .num); den = a .den } in
+    e ∙ ap Done (value-equal _ r (neg-done a _ e .1) (neg-lowest a l) (neg-value a _ e ∙ sym (val-same (rat r) (negQ (rat a)) (over-neg (a .num) (a .den) (l .fraction .den-some)) ∙ val-neg (rat a))))

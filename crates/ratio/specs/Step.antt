@@ -85,7 +85,7 @@ negOf a = need (isFraction a) BadInput (Done (lowest (negℤ (a .num)) (a .den))
 unfoldable pub invOf : Ratio → Step
 invOf a = need (isFraction a) BadInput (need (not (isNil (a .num))) DivByZero (Done (lowest (a .den) (a .num))))
 
--- a number's sign moved with the denominator's: n · d has the sign of n / d
+-- the numerator of n / d where the denominator is made positive
 abbrev pub facing : ℤ → ℤ → ℤ
 facing n d = signed (differ (ltZ n (pos 0)) (ltZ d (pos 0))) (natAbs n)
 
