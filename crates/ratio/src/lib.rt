@@ -1,0 +1,422 @@
+// Fractions and their checked steps (document 01, module 1; the original's src/poly/mod.rs).
+// Every step takes any pair of numbers: what is no fraction within the range is refused with 5.
+ghost use mathlib.Core.Path.{_≡_};
+ghost use mathlib.Core.Bool.{not};
+ghost use lib.Dec.{eqb};
+ghost use Prim.Native.Nat.{_*_, _≤_};
+ghost use lib.IntN.{pos, natAbs, negℤ, _+ℤ_, _*ℤ_};
+ghost use lib.Signed.{ltZ};
+ghost use Rattle.algebra.specs.Rational.{addQ, subQ, mulQ, negQ, over};
+ghost use Rattle.ratio.specs.Range.{limit, Within, within};
+ghost use Rattle.ratio.specs.Gcd.{gcdOf, IsGcd};
+ghost use Rattle.ratio.specs.Number.{productOf, wholeOf, wide};
+ghost use Rattle.ratio.specs.Step.{isNil, isFraction, differ, orderOf, isLowest, signed as signedOf, lowest, newOf, addOf, subOf, mulOf, negOf, invOf, cmpOf};
+ghost use Rattle.ratio.specs.Promise.{rat, Fraction, Lowest, AddFits, SubFits, MulFits, InvFits, Answers, Orders, Tells};
+
+// Why something is refused. `specs/Refusal.antt` gives each reason document 01's number.
+pub enum Reason {
+    NotPolynomial,
+    CoeffOverflow,
+    DivByZero,
+    TooLong,
+    BadInput,
+    Malformed { at: usize },
+    Budget,
+    TooDeep,
+    NoRoom,
+}
+
+pub struct Ratio {
+    pub num: i64,
+    pub den: i64,
+}
+
+// The answer of a rational step.
+pub enum Step {
+    Done(Ratio),
+    Refused(Reason),
+}
+
+// The answer of a comparison.
+pub enum Order {
+    Less,
+    Equal,
+    Greater,
+    Unordered(Reason),
+}
+
+// ---- whole numbers
+
+// A checked whole number.
+enum Whole {
+    Is(i64),
+    Over,
+}
+
+enum Product {
+    Is(u64),
+    TooLarge,
+}
+
+fn is_neg(x: i64) -> bool
+    ensures { λ r. ⌜ r ≡ ltZ x (pos 0) ⌝ }
+{
+    x < 0
+}
+
+fn in_range(x: i64) -> bool
+    ensures { λ r. ⌜ r ≡ within x ⌝ }
+{
+    x != -9223372036854775808
+}
+
+// The size of a number, of -2^63 too.
+fn magnitude(x: i64) -> u64
+    ensures { λ r. ⌜ r ≡ natAbs x ⌝ }
+{
+    if x < 0 {
+        if x == -9223372036854775808 {
+            return 9223372036854775808;
+        }
+        let y = -x;
+        y as u64
+    } else {
+        x as u64
+    }
+}
+
+fn signed(neg: bool, m: u64) -> i64
+    requires { ⌜ m ≤ limit ⌝ }
+    ensures { λ r. ⌜ r ≡ signedOf neg m ⌝ }
+{
+    let y = m as i64;
+    if neg { -y } else { y }
+}
+
+fn gcd(a: u64, b: u64) -> u64
+    ensures { λ r. ⌜ r ≡ gcdOf a b ⌝ }
+{
+    let mut x = a;
+    let mut y = b;
+    while y != 0 {
+        let t = x % y;
+        x = y;
+        y = t;
+    }
+    x
+}
+
+// The greatest common divisor, of -2^63 too: that is why it has no sign.
+pub fn gcd_i64(a: i64, b: i64) -> u64
+    ensures is { λ r. ⌜ r ≡ gcdOf (natAbs a) (natAbs b) ⌝ }
+    ensures greatest { λ r. ⌜ IsGcd (natAbs a) (natAbs b) r ⌝ }
+{
+    gcd(magnitude(a), magnitude(b))
+}
+
+// The product by half words, each below 2^32, where it is within the limit.
+fn mul_magnitude(a: u64, b: u64) -> Product
+    requires { ⌜ (a ≤ limit) × (b ≤ limit) ⌝ }
+    ensures { λ r. ⌜ r ≡ productOf (a * b) ⌝ }
+{
+    let ah = a / 4294967296;
+    let al = a % 4294967296;
+    let bh = b / 4294967296;
+    let bl = b % 4294967296;
+    if ah != 0 {
+        if bh != 0 {
+            return Product::TooLarge;
+        }
+    }
+    let mid = ah * bl + al * bh;
+    if mid >= 2147483648 {
+        return Product::TooLarge;
+    }
+    let low = al * bl;
+    let top = mid * 4294967296;
+    if low > 9223372036854775807 - top {
+        return Product::TooLarge;
+    }
+    Product::Is(top + low)
+}
+
+fn mul_whole(x: i64, y: i64) -> Whole
+    requires { ⌜ Within x × Within y ⌝ }
+    ensures { λ r. ⌜ r ≡ wholeOf (x *ℤ y) ⌝ }
+{
+    let Product::Is(m) = mul_magnitude(magnitude(x), magnitude(y)) else {
+        return Whole::Over;
+    };
+    Whole::Is(signed(is_neg(x) != is_neg(y), m))
+}
+
+fn add_whole(x: i64, y: i64) -> Whole
+    requires { ⌜ Within x × Within y ⌝ }
+    ensures { λ r. ⌜ r ≡ wholeOf (x +ℤ y) ⌝ }
+{
+    let mx = magnitude(x);
+    let my = magnitude(y);
+    let nx = is_neg(x);
+    let ny = is_neg(y);
+    if nx == ny {
+        let s = mx + my;
+        if s > 9223372036854775807 {
+            return Whole::Over;
+        }
+        return Whole::Is(signed(nx, s));
+    }
+    if mx >= my {
+        Whole::Is(signed(nx, mx - my))
+    } else {
+        Whole::Is(signed(ny, my - mx))
+    }
+}
+
+// ---- fractions
+
+fn is_fraction(r: Ratio) -> bool
+    ensures { λ t. ⌜ t ≡ isFraction r ⌝ }
+{
+    if in_range(r.num) {
+        if in_range(r.den) { r.den != 0 } else { false }
+    } else {
+        false
+    }
+}
+
+// Lowest terms, and the sign of the fraction moves to the numerator.
+fn reduce(n: i64, d: i64) -> Ratio
+    requires { ⌜ Fraction (record { num = n; den = d }) ⌝ }
+    ensures { λ r. ⌜ r ≡ lowest n d ⌝ }
+{
+    let m = magnitude(n);
+    let k = magnitude(d);
+    let g = gcd(m, k);
+    let below = is_neg(n) != is_neg(d);
+    let num = signed(below, m / g);
+    Ratio {
+        num,
+        den: signed(false, k / g),
+    }
+}
+
+impl Ratio {
+    pub fn new(num: i64, den: i64) -> Step
+        ensures is { λ r. ⌜ r ≡ newOf num den ⌝ }
+        ensures promise { λ r. ⌜ Answers (Fraction (record { num = num; den = den })) (over num den) r ⌝ }
+    {
+        if is_fraction(Ratio { num, den }) {
+            Step::Done(reduce(num, den))
+        } else {
+            Step::Refused(Reason::BadInput)
+        }
+    }
+
+    // Whether it is in lowest terms, within the range, its denominator above zero.
+    pub fn is_lowest(self) -> bool
+        ensures is { λ t. ⌜ t ≡ isLowest self ⌝ }
+        ensures promise { λ t. ⌜ Tells (Lowest self) t ⌝ }
+    {
+        if is_fraction(self) {
+            if self.den < 0 {
+                false
+            } else {
+                gcd_i64(self.num, self.den) == 1
+            }
+        } else {
+            false
+        }
+    }
+
+    pub fn is_zero(self) -> bool
+        ensures is { λ t. ⌜ t ≡ isNil (self .num) ⌝ }
+    {
+        self.num == 0
+    }
+}
+
+pub fn checked_add(a: Ratio, b: Ratio) -> Step
+    ensures is { λ r. ⌜ r ≡ addOf a b ⌝ }
+    ensures promise { λ r. ⌜ Answers (AddFits a b) (addQ (rat a) (rat b)) r ⌝ }
+{
+    if !is_fraction(a) {
+        return Step::Refused(Reason::BadInput);
+    }
+    if !is_fraction(b) {
+        return Step::Refused(Reason::BadInput);
+    }
+    let Whole::Is(left) = mul_whole(a.num, b.den) else {
+        return Step::Refused(Reason::CoeffOverflow);
+    };
+    let Whole::Is(right) = mul_whole(b.num, a.den) else {
+        return Step::Refused(Reason::CoeffOverflow);
+    };
+    let Whole::Is(n) = add_whole(left, right) else {
+        return Step::Refused(Reason::CoeffOverflow);
+    };
+    let Whole::Is(d) = mul_whole(a.den, b.den) else {
+        return Step::Refused(Reason::CoeffOverflow);
+    };
+    Step::Done(reduce(n, d))
+}
+
+// The range is the same on both sides of zero, so a - b is a + (-b), refusals included.
+pub fn checked_sub(a: Ratio, b: Ratio) -> Step
+    ensures is { λ r. ⌜ r ≡ subOf a b ⌝ }
+    ensures promise { λ r. ⌜ Answers (SubFits a b) (subQ (rat a) (rat b)) r ⌝ }
+{
+    let n = b.num;
+    if in_range(n) {
+        checked_add(
+            a,
+            Ratio {
+                num: -n,
+                den: b.den,
+            },
+        )
+    } else {
+        Step::Refused(Reason::BadInput)
+    }
+}
+
+pub fn checked_mul(a: Ratio, b: Ratio) -> Step
+    ensures is { λ r. ⌜ r ≡ mulOf a b ⌝ }
+    ensures promise { λ r. ⌜ Answers (MulFits a b) (mulQ (rat a) (rat b)) r ⌝ }
+{
+    if !is_fraction(a) {
+        return Step::Refused(Reason::BadInput);
+    }
+    if !is_fraction(b) {
+        return Step::Refused(Reason::BadInput);
+    }
+    let Whole::Is(n) = mul_whole(a.num, b.num) else {
+        return Step::Refused(Reason::CoeffOverflow);
+    };
+    let Whole::Is(d) = mul_whole(a.den, b.den) else {
+        return Step::Refused(Reason::CoeffOverflow);
+    };
+    Step::Done(reduce(n, d))
+}
+
+pub fn checked_neg(a: Ratio) -> Step
+    ensures is { λ r. ⌜ r ≡ negOf a ⌝ }
+    ensures promise { λ r. ⌜ Answers (Fraction a) (negQ (rat a)) r ⌝ }
+{
+    if is_fraction(a) {
+        let n = a.num;
+        Step::Done(reduce(-n, a.den))
+    } else {
+        Step::Refused(Reason::BadInput)
+    }
+}
+
+// 1 / a; zero has no inverse (3).
+pub fn inverse(a: Ratio) -> Step
+    ensures is { λ r. ⌜ r ≡ invOf a ⌝ }
+    ensures promise { λ r. ⌜ Answers (InvFits a) (over (a .den) (a .num)) r ⌝ }
+{
+    if !is_fraction(a) {
+        return Step::Refused(Reason::BadInput);
+    }
+    if a.num == 0 {
+        return Step::Refused(Reason::DivByZero);
+    }
+    Step::Done(reduce(a.den, a.num))
+}
+
+// ---- comparison
+
+// A product of two magnitudes, which may take 126 bits: high · 2^64 + low.
+struct Wide {
+    high: u64,
+    low: u64,
+}
+
+// Multiplied by hand in base 2^32.
+fn wide_product(a: u64, b: u64) -> Wide
+    requires { ⌜ (a ≤ limit) × (b ≤ limit) ⌝ }
+    ensures { λ r. ⌜ wide r ≡ a * b ⌝ }
+{
+    let ah = a / 4294967296;
+    let al = a % 4294967296;
+    let bh = b / 4294967296;
+    let bl = b % 4294967296;
+    let low = al * bl;
+    let mid = ah * bl + al * bh + low / 4294967296;
+    Wide {
+        high: ah * bh + mid / 4294967296,
+        low: mid % 4294967296 * 4294967296 + low % 4294967296,
+    }
+}
+
+fn compare_wide(x: Wide, y: Wide) -> Order
+    ensures { λ r. ⌜ r ≡ orderOf (pos (wide x)) (pos (wide y)) ⌝ }
+{
+    if x.high < y.high {
+        Order::Less
+    } else if y.high < x.high {
+        Order::Greater
+    } else if x.low < y.low {
+        Order::Less
+    } else if y.low < x.low {
+        Order::Greater
+    } else {
+        Order::Equal
+    }
+}
+
+fn is_nothing(x: Wide) -> bool
+    ensures { λ r. ⌜ r ≡ eqb (wide x) 0 ⌝ }
+{
+    if x.high == 0 { x.low == 0 } else { false }
+}
+
+// The order of -x and y, or of x and -y where `below` is false.
+fn apart(below: bool, x: Wide, y: Wide) -> Order
+    ensures { λ r. ⌜ r ≡ orderOf (signedOf below (wide x)) (signedOf (not below) (wide y)) ⌝ }
+{
+    if is_nothing(x) {
+        if is_nothing(y) {
+            return Order::Equal;
+        }
+    }
+    if below { Order::Less } else { Order::Greater }
+}
+
+// The cross product of a's numerator and b's denominator, without signs.
+fn cross(a: Ratio, b: Ratio) -> Wide
+    requires { ⌜ Within (a .num) × Within (b .den) ⌝ }
+    ensures { λ r. ⌜ wide r ≡ natAbs (a .num) * natAbs (b .den) ⌝ }
+{
+    wide_product(magnitude(a.num), magnitude(b.den))
+}
+
+fn is_below(r: Ratio) -> bool
+    ensures { λ t. ⌜ t ≡ differ (ltZ (r .num) (pos 0)) (ltZ (r .den) (pos 0)) ⌝ }
+{
+    is_neg(r.num) != is_neg(r.den)
+}
+
+// The exact order of two fractions, by cross products of any size.
+pub fn compare(a: Ratio, b: Ratio) -> Order
+    ensures is { λ r. ⌜ r ≡ cmpOf a b ⌝ }
+    ensures promise { λ r. ⌜ Orders a b r ⌝ }
+{
+    if !is_fraction(a) {
+        return Order::Unordered(Reason::BadInput);
+    }
+    if !is_fraction(b) {
+        return Order::Unordered(Reason::BadInput);
+    }
+    let x = cross(a, b);
+    let y = cross(b, a);
+    let below = is_below(a);
+    if below != is_below(b) {
+        return apart(below, x, y);
+    }
+    if below {
+        compare_wide(y, x)
+    } else {
+        compare_wide(x, y)
+    }
+}
