@@ -6,6 +6,8 @@ use Rattle.ratio.specs.declared.Reason.{Reason}
 use Rattle.ratio.specs.declared.Reason.the-variants.{NotPolynomial, CoeffOverflow, DivByZero, TooLong, BadInput, Malformed, Budget, TooDeep, NoRoom}
 use Rattle.ratio.specs.declared.Step.{Step}
 use Rattle.ratio.specs.declared.Step.the-variants.{Done, Refused}
+use Rattle.ratio.specs.declared.Outcome.{Outcome}
+use Rattle.ratio.specs.declared.Outcome.the-variants as O
 use Rattle.ratio.specs.declared.Order.{Order}
 use Rattle.ratio.specs.declared.Order.the-variants.{Less, Equal, Greater, Unordered}
 
@@ -38,3 +40,8 @@ orderStatus Less = 0
 orderStatus Equal = 0
 orderStatus Greater = 0
 orderStatus (Unordered why) = numberOf why
+
+-- the outcome beside an array
+abbrev pub outcomeStatus : Outcome → ℕ
+outcomeStatus O.Done = 0
+outcomeStatus (O.Refused why) = numberOf why

@@ -37,6 +37,12 @@ pub enum Step {
     Refused(Reason),
 }
 
+// The outcome beside an answer that holds an array.
+pub enum Outcome {
+    Done,
+    Refused(Reason),
+}
+
 // The answer of a comparison.
 pub enum Order {
     Less,

@@ -1,0 +1,11 @@
+pub mod Words
+pub mod Skip
+pub mod Entries
+pub mod Next
+pub mod Rest
+pub mod Walks
+pub mod Order
+pub mod Count
+pub mod Once
+pub mod Lists
+pub mod Listed
