@@ -5,6 +5,7 @@ pub mod Checked
 pub mod Fractions
 pub mod Models
 pub mod Compared
+pub mod Quotient
 pub mod Lowest
 pub mod Answers
 pub mod Steps

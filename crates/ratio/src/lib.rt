@@ -77,8 +77,8 @@ fn in_range(x: i64) -> bool
 }
 
 // The size of a number, of -2^63 too.
-fn magnitude(x: i64) -> u64
-    ensures { λ r. ⌜ r ≡ natAbs x ⌝ }
+pub fn magnitude(x: i64) -> u64
+    ensures is { λ r. ⌜ r ≡ natAbs x ⌝ }
 {
     if x < 0 {
         if x == -9223372036854775808 {
@@ -195,14 +195,16 @@ fn reduce(n: i64, d: i64) -> Ratio
     requires { ⌜ Fraction (record { num = n; den = d }) ⌝ }
     ensures { λ r. ⌜ r ≡ lowest n d ⌝ }
 {
-    let m = magnitude(n);
-    let k = magnitude(d);
-    let g = gcd(m, k);
-    let below = is_neg(n) != is_neg(d);
-    let num = signed(below, m / g);
-    Ratio {
-        num,
-        den: signed(false, k / g),
+    let g = gcd(magnitude(n), magnitude(d)) as i64;
+    let num = n / g;
+    let den = d / g;
+    if den < 0 {
+        Ratio {
+            num: -num,
+            den: -den,
+        }
+    } else {
+        Ratio { num, den }
     }
 }
 
