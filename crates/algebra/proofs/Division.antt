@@ -8,41 +8,8 @@ use native.Mathlib.Decide.{decLe, ℕ-discrete}
 use Rattle.algebra.proofs.Ring.{CRing, Field, by1, by2}
 use Rattle.algebra.proofs.Reflect.{ring!, reify}
 use Rattle.algebra.proofs.Series.{Ser, tl, addS, mulS, negS, nilS, conS, Ser-ring, Below, nil-mulS}
-use Rattle.algebra.proofs.Poly.{Poly, IsPoly, addP, mulP, negP, nilP, Poly-ring, mk-poly}
-
-module _ {A : Type 0} (R : CRing A) where
-  open CRing R using (add as _+_, mul as _*_, neg as -_, nil as 𝟘, one as 𝟙)
-
-  infixl 60 _+_
-  infixl 70 _*_
-  infix 75 -_
-  -- c xʲ
-  unfoldable pub monS : A → ℕ → Ser R
-  monS c zero zero = c
-  monS c zero (suc k) = 𝟘
-  monS c (suc j) zero = 𝟘
-  monS c (suc j) (suc k) = monS c j k
-
-  pub mon-below : (c : A) (j : ℕ) → Below R (suc j) (monS c j)
-  unfolding monS
-  mon-below c zero zero h = absurd (omega arith)
-  mon-below c zero (suc k) h = refl
-  mon-below c (suc j) zero h = absurd (omega arith)
-  mon-below c (suc j) (suc k) h = mon-below c j k (omega arith)
-
-  -- what multiplying by it does
-  pub mon-mul : (c : A) (j : ℕ) (t : Ser R) (i k : ℕ) → i ≡ j +ⁿ k → mulS R (monS c j) t i ≡ c * t k
-  unfolding monS mulS
-  mon-mul c zero t zero k e = ap (λ n. c * t n) (omega arith)
-  mon-mul c zero t (suc i) k e =
-      let f : suc i ≡ k = omega arith in
-      subst (λ n. c * t (suc i) + mulS R (nilS R) t i ≡ c * t n) f
-      (by1 R 𝟙 (nil-mulS R t i) (ring! R (c ∷ t (suc i) ∷ mulS R (nilS R) t i ∷ []) (search reify depth 20) tt))
-  mon-mul c (suc j) t zero k e = absurd (omega arith)
-  mon-mul c (suc j) t (suc i) k e = by1 R 𝟙 (mon-mul c j t i k (omega arith)) (ring! R (c ∷ t k ∷ t (suc i) ∷ mulS R (monS c j) t i ∷ []) (search reify depth 20) tt)
-
-  unfoldable pub monP : A → ℕ → Poly R
-  monP c j = mk-poly R (suc j) (monS c j) (mon-below c j)
+use Rattle.algebra.proofs.Poly.{Poly, addP, mulP, negP, nilP, Poly-ring, mk-poly}
+use Rattle.algebra.proofs.Monomials.{monS, monP, mon-mul}
 
 module _ {A : Type 0} (K : Field A) where
   abbrev R : CRing A

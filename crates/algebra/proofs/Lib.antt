@@ -6,6 +6,8 @@ pub mod Fraction
 pub mod Rational
 pub mod Series
 pub mod Poly
+pub mod Constants
+pub mod Monomials
 pub mod Division
 pub mod Bezout
 pub mod WholeGcd

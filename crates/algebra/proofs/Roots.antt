@@ -7,7 +7,8 @@ use Rattle.algebra.proofs.Ring.{CRing, by1, by2, mul-nil}
 use Rattle.algebra.proofs.Reflect.{ring!, reify}
 use Rattle.algebra.proofs.Series.{Ser, tl, addS, mulS, nilS, conS, nil-mulS}
 use Rattle.algebra.proofs.Poly.{Poly, Poly-ring, addP, mulP, negP, nilP, conP, poly-path}
-use Rattle.algebra.proofs.Division.{monP}
+use Rattle.algebra.proofs.Constants.{con-nil, con-add, con-mul}
+use Rattle.algebra.proofs.Monomials.{X}
 use Rattle.algebra.proofs.Bezout.{coprime-divides}
 
 module _ {A : Type 0} (R : CRing A) where
@@ -16,39 +17,9 @@ module _ {A : Type 0} (R : CRing A) where
   infixl 60 _+_
   infixl 70 _*_
   infix 75 -_
-  -- constants are a ring in the polynomials
-  con-nil : conP R 𝟘 ≡ nilP R
-  unfolding conP nilP conS
-  con-nil = poly-path R _ _ (fun-ext (λ n. go n))
-    where
-      go : (n : ℕ) → conS R 𝟘 n ≡ 𝟘
-      go zero = refl
-      go (suc n) = refl
-
-  con-addS : (a b : A) (n : ℕ) → conS R (a + b) n ≡ conS R a n + conS R b n
-  unfolding conS
-  con-addS a b zero = refl
-  con-addS a b (suc n) = sym (R .add-nil 𝟘)
-
-  con-mulS : (a b : A) (n : ℕ) → conS R (a * b) n ≡ mulS R (conS R a) (conS R b) n
-  unfolding conS mulS
-  con-mulS a b zero = refl
-  con-mulS a b (suc n) = sym (ap₂ _+_ (mul-nil R a) (nil-mulS R (conS R b) n) ∙ R .add-nil 𝟘)
-
-  con-add : (a b : A) → conP R (a + b) ≡ addP R (conP R a) (conP R b)
-  unfolding conP addP
-  con-add a b = poly-path R _ _ (fun-ext (con-addS a b))
-
-  con-mul : (a b : A) → conP R (a * b) ≡ mulP R (conP R a) (conP R b)
-  unfolding conP mulP
-  con-mul a b = poly-path R _ _ (fun-ext (con-mulS a b))
-
-  pub X : Poly R
-  X = monP R 𝟙 1
-
   pub polyOf : List A → Poly R
   polyOf [] = nilP R
-  polyOf (a ∷ l) = addP R (conP R a) (mulP R X (polyOf l))
+  polyOf (a ∷ l) = addP R (conP R a) (mulP R (X R) (polyOf l))
 
   pub horner : List A → A → A
   horner [] r = 𝟘
@@ -56,14 +27,14 @@ module _ {A : Type 0} (R : CRing A) where
 
   pub synth : List A → A → Poly R
   synth [] r = nilP R
-  synth (a ∷ l) r = addP R (mulP R X (synth l r)) (conP R (horner l r))
+  synth (a ∷ l) r = addP R (mulP R (X R) (synth l r)) (conP R (horner l r))
 
-  pub remainder : (l : List A) (r : A) → polyOf l ≡ addP R (mulP R (addP R X (negP R (conP R r))) (synth l r)) (conP R (horner l r))
+  pub remainder : (l : List A) (r : A) → polyOf l ≡ addP R (mulP R (addP R (X R) (negP R (conP R r))) (synth l r)) (conP R (horner l r))
   unfolding polyOf horner synth
-  remainder [] r = by1 (Poly-ring R) (negP R (conP R 𝟙)) con-nil (ring! (Poly-ring R) (X ∷ conP R r ∷ conP R 𝟘 ∷ []) (search reify depth 30 fits 20000) tt)
+  remainder [] r = by1 (Poly-ring R) (negP R (conP R 𝟙)) (con-nil R) (ring! (Poly-ring R) (X R ∷ conP R r ∷ conP R 𝟘 ∷ []) (search reify depth 30 fits 20000) tt)
   remainder (a ∷ l) r =
-      by2 (Poly-ring R) X (remainder l r) (negP R (conP R 𝟙)) (con-add a (r * horner l r) ∙ ap (addP R (conP R a)) (con-mul r (horner l r)))
-      (ring! (Poly-ring R) (X ∷ conP R a ∷ conP R r ∷ polyOf l ∷ synth l r ∷ conP R (horner l r) ∷ conP R (a + r * horner l r) ∷ []) (search reify depth 30 fits 20000) tt)
+      by2 (Poly-ring R) (X R) (remainder l r) (negP R (conP R 𝟙)) (con-add R a (r * horner l r) ∙ ap (addP R (conP R a)) (con-mul R r (horner l r)))
+      (ring! (Poly-ring R) (X R ∷ conP R a ∷ conP R r ∷ polyOf l ∷ synth l r ∷ conP R (horner l r) ∷ conP R (a + r * horner l r) ∷ []) (search reify depth 30 fits 20000) tt)
 
   -- Σ aᵢ rⁱ sⁿ⁻ⁱ
   pub pw : A → List A → A
