@@ -5,6 +5,7 @@ pub mod Reflect
 pub mod Fraction
 pub mod Rational
 pub mod Series
+pub mod Divides
 pub mod Poly
 pub mod Constants
 pub mod Monomials
@@ -12,6 +13,7 @@ pub mod Division
 pub mod Bezout
 pub mod WholeGcd
 pub mod Euclid
+pub mod Monic
 pub mod Lowest
 pub mod Derivative
 pub mod Canon

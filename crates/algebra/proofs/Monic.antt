@@ -1,0 +1,181 @@
+-- Monic polynomials: products and quotients of them; two that divide each other are equal.
+use mathlib.Core.Path.{_≡_, refl, sym, _∙_, ap, ap₂, subst}
+use mathlib.Core.Logic.{_≢_}
+use mathlib.Core.List.{List, [], _∷_}
+use Prim.Native.Nat.{ℕ, zero, suc, _≤_, _<_, _+_ as _+ⁿ_}
+use native.Mathlib.Omega.{arith}
+use Rattle.algebra.proofs.Ring.{CRing, Domain, Field, Field-domain, pow, one-mul, nil-mul, mul-nil, by1, by2}
+use Rattle.algebra.proofs.Reflect.{ring!, reify}
+use Rattle.algebra.proofs.Series.{Below}
+use Rattle.algebra.proofs.Poly.{Poly, addP, mulP, negP, nilP, conP, Poly-ring}
+use Rattle.algebra.proofs.Constants.{con-at-zero, con-mul, con-mul-at, con-of, con-inj, con-nil}
+use Rattle.algebra.proofs.Degree.{HasDeg, Size, null, sized, size, degree-of, mul-lead, mul-below, con-below, deg-unique, deg-mul, deg-not-nil}
+use Rattle.algebra.proofs.Divides.{Dvd, dvd-unit, unit-dvd, dvd-multiple, dvd-trans, dvd-right, bez-dvd-a, bez-dvd-b, bez-greatest}
+use Rattle.algebra.proofs.Bezout.{Bezout}
+use Rattle.algebra.proofs.Euclid.{gcdP}
+
+module _ {A : Type 0} (R : CRing A) where
+  open CRing R using (add as _+_, mul as _*_, neg as -_, nil as 𝟘, one as 𝟙)
+
+  infixl 60 _+_
+  infixl 70 _*_
+  infix 75 -_
+  -- the highest coefficient is 1
+  pub record MonicP (p : Poly R) : Type 0 where
+    pub degree : ℕ
+    pub leads : p .0 degree ≡ 𝟙
+    pub ends : Below R (suc degree) (p .0)
+
+  pub monic-one : MonicP (conP R 𝟙)
+  monic-one = record { degree = 0; leads = con-at-zero R 𝟙; ends = con-below R 𝟙 }
+
+  pub monic-mul : (p q : Poly R) → MonicP p → MonicP q → MonicP (mulP R p q)
+  monic-mul p q x y = record {
+    degree = x .degree +ⁿ y .degree;
+    leads = mul-lead R p q (x .degree) (y .degree) (x .ends) (y .ends) ∙ ap₂ _*_ (x .leads) (y .leads) ∙ R .mul-one 𝟙;
+    ends = mul-below R p q (x .degree) (y .degree) (x .ends) (y .ends);
+  }
+
+  pub monic-pow : (p : Poly R) (n : ℕ) → MonicP p → MonicP (pow (Poly-ring R) p n)
+  unfolding pow
+  monic-pow p zero x = monic-one
+  monic-pow p (suc n) x = monic-mul (pow (Poly-ring R) p n) p (monic-pow p n x) x
+
+module _ {A : Type 0} (D : Domain A) where
+  abbrev R : CRing A
+  R = D .ring
+
+  open CRing R using (add as _+_, mul as _*_, neg as -_, nil as 𝟘, one as 𝟙)
+
+  infixl 60 _+_
+  infixl 70 _*_
+  infix 75 -_
+  pub monic-deg : (p : Poly R) (x : MonicP R p) → HasDeg R p (x .degree)
+  monic-deg p x = record { leads = λ e. D .proper (sym (x .leads) ∙ e); ends = x .ends }
+
+  pub monic-not-nil : (p : Poly R) → MonicP R p → p ≢ nilP R
+  monic-not-nil p x = deg-not-nil R p (x .degree) (monic-deg p x)
+
+  -- a monic constant is 1
+  pub monic-constant : (p : Poly R) (x : MonicP R p) → HasDeg R p 0 → p ≡ conP R 𝟙
+  monic-constant p x d = con-of R p (d .ends) ∙ ap (conP R) (ap (p .0) (deg-unique R p 0 (x .degree) d (monic-deg p x)) ∙ x .leads)
+
+  -- a monic multiple of a monic polynomial has a monic quotient
+  pub monic-quotient : (q p : Poly R) → MonicP R p → MonicP R (mulP R q p) → MonicP R q
+  monic-quotient q p x y = go (size D q)
+    where
+      go : Size D q → MonicP R q
+      go (null e) = absurd (monic-not-nil (mulP R q p) y (ap (λ t. mulP R t p) e ∙ nil-mul (Poly-ring R) p))
+      go (sized n d) =
+          let same : y .degree ≡ n +ⁿ x .degree = deg-unique R (mulP R q p) (y .degree) (n +ⁿ x .degree) (monic-deg (mulP R q p) y) (deg-mul D q p n (x .degree) d (monic-deg p x)) in
+          let lead : q .0 n * p .0 (x .degree) ≡ 𝟙 = sym (mul-lead R q p n (x .degree) (d .ends) (x .ends)) ∙ ap (mulP R q p .0) (sym same) ∙ y .leads in
+          record { degree = n; leads = sym (R .mul-one (q .0 n)) ∙ ap (λ z. q .0 n * z) (sym (x .leads)) ∙ lead; ends = d .ends }
+
+  pub monic-same : (p q : Poly R) → MonicP R p → MonicP R q → Dvd (Poly-ring R) p q → Dvd (Poly-ring R) q p → p ≡ q
+  monic-same p q x y (a, e) (b, f) =
+      let xa : MonicP R a = monic-quotient a p x (subst (MonicP R) e y) in
+      let xb : MonicP R b = monic-quotient b q y (subst (MonicP R) f x) in
+      let da : y .degree ≡ xa .degree +ⁿ x .degree =
+      deg-unique R q (y .degree) (xa .degree +ⁿ x .degree) (monic-deg q y) (subst (λ t. HasDeg R t (xa .degree +ⁿ x .degree)) (sym e) (deg-mul D a p (xa .degree) (x .degree) (monic-deg a xa) (monic-deg p x))) in
+      let db : x .degree ≡ xb .degree +ⁿ y .degree =
+      deg-unique R p (x .degree) (xb .degree +ⁿ y .degree) (monic-deg p x) (subst (λ t. HasDeg R t (xb .degree +ⁿ y .degree)) (sym f) (deg-mul D b q (xb .degree) (y .degree) (monic-deg b xb) (monic-deg q y))) in
+      let one : a ≡ conP R 𝟙 = monic-constant a xa (subst (HasDeg R a) (omega arith) (monic-deg a xa)) in
+      sym (e ∙ ap (λ t. mulP R t p) one ∙ one-mul (Poly-ring R) p)
+
+  -- so there is at most one monic greatest common divisor
+  pub record IsGcdP (a b g : Poly R) : Type 0 where
+    pub monic : MonicP R g
+    pub divides-a : Dvd (Poly-ring R) g a
+    pub divides-b : Dvd (Poly-ring R) g b
+    pub greatest : (d : Poly R) → Dvd (Poly-ring R) d a → Dvd (Poly-ring R) d b → Dvd (Poly-ring R) d g
+
+  pub gcd-unique : (a b g h : Poly R) → IsGcdP a b g → IsGcdP a b h → g ≡ h
+  gcd-unique a b g h x y = monic-same g h (x .monic) (y .monic) (y .greatest g (x .divides-a) (x .divides-b)) (x .greatest h (y .divides-a) (y .divides-b))
+
+  -- a combination that is monic and divides both is the greatest common divisor
+  pub bez-is-gcd : (a b : Poly R) (z : Bezout (Poly-ring R) a b) → MonicP R (z .g) → IsGcdP a b (z .g)
+  bez-is-gcd a b z m = record {
+    monic = m;
+    divides-a = bez-dvd-a (Poly-ring R) a b z;
+    divides-b = bez-dvd-b (Poly-ring R) a b z;
+    greatest = λ d h k. bez-greatest (Poly-ring R) a b d z h k;
+  }
+
+module _ {A : Type 0} (K : Field A) where
+  abbrev F : CRing A
+  F = K .ring
+
+  con-unit : (c : A) → c ≢ F .nil → mulP F (conP F c) (conP F (K .inv c)) ≡ conP F (F .one)
+  con-unit c h = sym (con-mul F c (K .inv c)) ∙ ap (conP F) (K .mul-inv c h)
+
+  -- a constant factor changes nothing in what divides what
+  pub scaled-dvd : (c : A) (d p : Poly F) → c ≢ F .nil → Dvd (Poly-ring F) d p → Dvd (Poly-ring F) (mulP F (conP F c) d) p
+  scaled-dvd c d p h = dvd-unit (Poly-ring F) (conP F c) (conP F (K .inv c)) d p (con-unit c h)
+
+  pub unscaled-dvd : (c : A) (d p : Poly F) → Dvd (Poly-ring F) (mulP F (conP F c) d) p → Dvd (Poly-ring F) d p
+  unscaled-dvd c d p h = dvd-trans (Poly-ring F) d (mulP F (conP F c) d) p (dvd-right (Poly-ring F) d (conP F c)) h
+
+  pub dvd-scaled : (c : A) (d p : Poly F) → Dvd (Poly-ring F) d p → Dvd (Poly-ring F) d (mulP F (conP F c) p)
+  dvd-scaled c d p = dvd-multiple (Poly-ring F) d p (conP F c)
+
+  pub dvd-unscaled : (c : A) (d p : Poly F) → c ≢ F .nil → Dvd (Poly-ring F) d (mulP F (conP F c) p) → Dvd (Poly-ring F) d p
+  dvd-unscaled c d p h = unit-dvd (Poly-ring F) (conP F c) (conP F (K .inv c)) d p (con-unit c h)
+
+  -- p divided by its leading coefficient
+  pub record MonicForm (p : Poly F) : Type 0 where
+    pub lead : A
+    pub lead-ne : lead ≢ F .nil
+    pub form : Poly F
+    pub monic : MonicP F form
+    pub is : p ≡ mulP F (conP F lead) form
+    pub inverse : form ≡ mulP F (conP F (K .inv lead)) p
+
+  pub monic-form : (p : Poly F) → p ≢ nilP F → MonicForm p
+  monic-form p h =
+      let (n, d) = degree-of (Field-domain K) p h in
+      record {
+        lead = p .0 n;
+        lead-ne = d .leads;
+        form = mulP F (conP F (K .inv (p .0 n))) p;
+        monic = record {
+          degree = n;
+          leads = con-mul-at F (K .inv (p .0 n)) p n ∙ F .mul-comm (K .inv (p .0 n)) (p .0 n) ∙ K .mul-inv (p .0 n) (d .leads);
+          ends = λ k l. con-mul-at F (K .inv (p .0 n)) p k ∙ ap (F .mul (K .inv (p .0 n))) (d .ends k l) ∙ mul-nil F (K .inv (p .0 n));
+        };
+        is = by1 (Poly-ring F) (negP F p) (con-unit (p .0 n) (d .leads))
+            (ring! (Poly-ring F) (p ∷ conP F (p .0 n) ∷ conP F (K .inv (p .0 n)) ∷ []) (search reify depth 30 fits 20000) tt);
+        inverse = refl;
+      }
+
+  pub record MonicGcd (a b : Poly F) : Type 0 where
+    pub bezout : Bezout (Poly-ring F) a b
+    pub monic : MonicP F (bezout .g)
+
+  bez-nil-only : (a b : Poly F) (z : Bezout (Poly-ring F) a b) → z .g ≡ nilP F → (a ≡ nilP F) × (b ≡ nilP F)
+  bez-nil-only a b z e = (
+    z .div-a ∙ ap (λ t. mulP F t (z .a′)) e ∙ nil-mul (Poly-ring F) (z .a′),
+    z .div-b ∙ ap (λ t. mulP F t (z .b′)) e ∙ nil-mul (Poly-ring F) (z .b′),
+  )
+
+  -- there is a monic one unless both are zero
+  pub monic-gcd : (a b : Poly F) → (a ≡ nilP F → b ≡ nilP F → ⊥) → MonicGcd a b
+  monic-gcd a b h =
+      let z : Bezout (Poly-ring F) a b = gcdP K a b in
+      let m : MonicForm (z .g) = monic-form (z .g) (λ e. h (bez-nil-only a b z e .0) (bez-nil-only a b z e .1)) in
+      let c : Poly F = conP F (K .inv (m .lead)) in
+      record {
+        bezout = record {
+          g = m .form;
+          u = mulP F c (z .u);
+          v = mulP F c (z .v);
+          a′ = mulP F (conP F (m .lead)) (z .a′);
+          b′ = mulP F (conP F (m .lead)) (z .b′);
+          comb = by2 (Poly-ring F) (conP F (F .one)) (m .inverse) c (z .comb)
+              (ring! (Poly-ring F) (a ∷ b ∷ c ∷ m .form ∷ z .g ∷ z .u ∷ z .v ∷ []) (search reify depth 30 fits 20000) tt);
+          div-a = by2 (Poly-ring F) (conP F (F .one)) (z .div-a) (z .a′) (m .is)
+              (ring! (Poly-ring F) (a ∷ conP F (m .lead) ∷ m .form ∷ z .g ∷ z .a′ ∷ []) (search reify depth 30 fits 20000) tt);
+          div-b = by2 (Poly-ring F) (conP F (F .one)) (z .div-b) (z .b′) (m .is)
+              (ring! (Poly-ring F) (b ∷ conP F (m .lead) ∷ m .form ∷ z .g ∷ z .b′ ∷ []) (search reify depth 30 fits 20000) tt);
+        };
+        monic = m .monic;
+      }
