@@ -11,6 +11,7 @@ use Rattle.algebra.proofs.Ring.{CRing, Domain, by1, by2, nil-mul, sub-n
 use Rattle.algebra.proofs.Reflect.{ring!, reify}
 use Rattle.algebra.proofs.Series.{Ser, tl, mulS, nilS, nil-mulS, Below, below-neg}
 use Rattle.algebra.proofs.Poly.{Poly, addP, mulP, negP, nilP, conP, Poly-ring, Poly-set, by-bound, nil-at, mul-at, nil-below}
+use Rattle.algebra.proofs.ZeroProduct.{ne-mul}
 use Rattle.algebra.proofs.Constants.{con-at-zero, con-at-suc, con-of}
 
 module _ {A : Type 0} (R : CRing A) where
@@ -184,13 +185,10 @@ module _ {A : Type 0} (D : Domain A) where
       let b : n < lengthP p = deg-bound R p n (lengthP p) d (length-below p) in
       omega arith
 
-  pub ne-mul : (a b : A) → a ≢ R .nil → b ≢ R .nil → R .mul a b ≢ R .nil
-  ne-mul a b h k e = h (D .cancel a (R .nil) b k (e ∙ sym (nil-mul R b)))
-
   -- the degree of a product
   pub deg-mul : (p q : Poly R) (m n : ℕ) → HasDeg R p m → HasDeg R q n → HasDeg R (mulP R p q) (m +ⁿ n)
   deg-mul p q m n d e = record {
-    leads = λ z. ne-mul (p .0 m) (q .0 n) (d .leads) (e .leads) (sym (mul-lead R p q m n (d .ends) (e .ends)) ∙ z);
+    leads = λ z. ne-mul D (p .0 m) (q .0 n) (d .leads) (e .leads) (sym (mul-lead R p q m n (d .ends) (e .ends)) ∙ z);
     ends = mul-below R p q m n (d .ends) (e .ends);
   }
 

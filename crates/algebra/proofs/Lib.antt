@@ -6,6 +6,7 @@ pub mod Fraction
 pub mod Rational
 pub mod Series
 pub mod Divides
+pub mod ZeroProduct
 pub mod Poly
 pub mod Constants
 pub mod Monomials
@@ -17,5 +18,8 @@ pub mod Monic
 pub mod Lowest
 pub mod Derivative
 pub mod Canon
+pub mod Listed
+pub mod Evaluation
 pub mod Roots
+pub mod RationalRoot
 pub mod Degree
