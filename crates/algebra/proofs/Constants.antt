@@ -1,13 +1,14 @@
 -- The constants are a ring inside the polynomials; a constant times a polynomial, by coefficients.
-use mathlib.Core.Path.{_≡_, refl, sym, _∙_, ap, ap₂}
+use mathlib.Core.Path.{_≡_, refl, sym, _∙_, ap}
 use Prim.Native.Nat.{ℕ, zero, suc}
 use native.Mathlib.Omega.{arith}
-use Rattle.algebra.proofs.Ring.{CRing, nat, pow, mul-nil, neg-nil}
+use Rattle.algebra.proofs.Ring.{CRing, nat, pow, mul-nil}
+use Rattle.algebra.proofs.RingMap.{RingMap, map-neg, map-nat, map-pow}
 use Rattle.algebra.proofs.Series.{mulS, conS, nil-mulS, Below}
 use Rattle.algebra.proofs.Poly.{Poly, addP, mulP, negP, nilP, conP, Poly-ring, poly-ext, nil-path}
 
 module _ {A : Type 0} (R : CRing A) where
-  open CRing R using (add as _+_, mul as _*_, neg as -_, nil as 𝟘, one as 𝟙)
+  open CRing R using (add as _+_, mul as _*_, neg as -_, nil as 𝟘)
 
   infixl 60 _+_
   infixl 70 _*_
@@ -52,14 +53,6 @@ module _ {A : Type 0} (R : CRing A) where
       go zero = refl
       go (suc n) = sym (R .add-nil 𝟘)
 
-  pub con-neg : (a : A) → conP R (- a) ≡ negP R (conP R a)
-  unfolding conP conS negP
-  con-neg a = poly-ext R _ _ go
-    where
-      go : (n : ℕ) → conS R (- a) n ≡ - conS R a n
-      go zero = refl
-      go (suc n) = sym (neg-nil R)
-
   pub con-mul : (a b : A) → conP R (a * b) ≡ mulP R (conP R a) (conP R b)
   con-mul a b = poly-ext R _ _ go
     where
@@ -67,12 +60,14 @@ module _ {A : Type 0} (R : CRing A) where
       go zero = con-at-zero (a * b) ∙ ap (λ z. a * z) (sym (con-at-zero b)) ∙ sym (con-mul-at a (conP R b) zero)
       go (suc n) = con-at-suc (a * b) n ∙ sym (con-mul-at a (conP R b) (suc n) ∙ ap (λ z. a * z) (con-at-suc b n) ∙ mul-nil R a)
 
+  abbrev pub con-map : RingMap R (Poly-ring R)
+  con-map = record { to = conP R; to-nil = con-nil; to-one = refl; to-add = con-add; to-mul = con-mul }
+
+  pub con-neg : (a : A) → conP R (- a) ≡ negP R (conP R a)
+  con-neg = map-neg R (Poly-ring R) con-map
+
   pub con-nat : (n : ℕ) → conP R (nat R n) ≡ nat (Poly-ring R) n
-  unfolding nat
-  con-nat zero = con-nil
-  con-nat (suc n) = con-add (nat R n) 𝟙 ∙ ap (λ z. addP R z (conP R 𝟙)) (con-nat n)
+  con-nat = map-nat R (Poly-ring R) con-map
 
   pub con-pow : (a : A) (n : ℕ) → conP R (pow R a n) ≡ pow (Poly-ring R) (conP R a) n
-  unfolding pow
-  con-pow a zero = refl
-  con-pow a (suc n) = con-mul (pow R a n) a ∙ ap (λ z. mulP R z (conP R a)) (con-pow a n)
+  con-pow = map-pow R (Poly-ring R) con-map

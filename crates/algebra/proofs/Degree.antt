@@ -1,8 +1,8 @@
 -- The degree of a polynomial over a domain: the least bound is a function; degrees of products add; the polynomials are a domain.
-use mathlib.Core.Path.{_≡_, refl, sym, _∙_, ap, ap₂, subst, fun-ext}
+use mathlib.Core.Path.{_≡_, refl, sym, _∙_, ap, subst, fun-ext}
 use mathlib.Core.Logic.{_≢_}
 use mathlib.Core.HLevel.{Π-prop, ×-prop, Σ-prop-path}
-use mathlib.Core.List.{List, [], _∷_}
+use mathlib.Core.List.{[], _∷_}
 use Prim.Native.Nat.{ℕ, zero, suc, _≤_, _<_, _+_ as _+ⁿ_}
 use native.Mathlib.Omega.{arith}
 use native.Mathlib.Bridge.{le-prop}
@@ -10,9 +10,10 @@ use native.Mathlib.Decide.{ℕ-discrete, decLe}
 use Rattle.algebra.proofs.Ring.{CRing, Domain, by1, by2, nil-mul, sub-nil}
 use Rattle.algebra.proofs.Reflect.{ring!, reify}
 use Rattle.algebra.proofs.Series.{Ser, tl, mulS, nilS, nil-mulS, Below, below-neg}
-use Rattle.algebra.proofs.Poly.{Poly, addP, mulP, negP, nilP, conP, Poly-ring, Poly-set, by-bound, nil-at, mul-at, nil-below}
+use Rattle.algebra.proofs.Poly.{Poly, addP, mulP, negP, nilP, conP, Poly-ring, by-bound, nil-at, mul-at, nil-below}
 use Rattle.algebra.proofs.ZeroProduct.{ne-mul}
-use Rattle.algebra.proofs.Constants.{con-at-zero, con-at-suc, con-of}
+use Rattle.algebra.proofs.Divides.{Dvd, Coprime, dvd-combination}
+use Rattle.algebra.proofs.Constants.{con-at-zero, con-at-suc}
 
 module _ {A : Type 0} (R : CRing A) where
   open CRing R using (add as _+_, mul as _*_, neg as -_, nil as 𝟘, one as 𝟙)
@@ -21,7 +22,7 @@ module _ {A : Type 0} (R : CRing A) where
   infixl 70 _*_
   infix 75 -_
   -- the leading coefficient of a product
-  pub lead-mul : (m n i : ℕ) (s t : Ser R) → Below R (suc m) s → Below R (suc n) t → i ≡ m +ⁿ n → mulS R s t i ≡ s m * t n
+  lead-mul : (m n i : ℕ) (s t : Ser R) → Below R (suc m) s → Below R (suc n) t → i ≡ m +ⁿ n → mulS R s t i ≡ s m * t n
   unfolding mulS
   lead-mul zero n zero s t hs ht e = ap (λ k. s zero * t k) (omega arith)
   lead-mul zero n (suc i) s t hs ht e =
@@ -261,3 +262,17 @@ module _ {A : Type 0} (D : Domain A) where
       go (sized m e) =
           let l : m +ⁿ n < n = deg-bound R (mulP R q p) (m +ⁿ n) n (deg-mul q p m n e d) h in
           absurd (omega arith)
+
+  -- a divisor has no larger degree
+  pub dvd-degree : (d p : Poly R) (n : ℕ) → Dvd (Poly-ring R) d p → HasDeg R p n → (m : ℕ) × (HasDeg R d m × (m ≤ n))
+  dvd-degree d p n (q, e) h =
+      let f : FactorDegrees q d n = deg-factors q d n (subst (λ z. HasDeg R z n) e h) in
+      (f .right, (f .deg-right, let s = f .adds in omega arith))
+
+  -- what divides a constant that is not 0 is a constant
+  pub dvd-constant : (d : Poly R) (c : A) → c ≢ R .nil → Dvd (Poly-ring R) d (conP R c) → HasDeg R d 0
+  dvd-constant d c h (q, e) = deg-zero-right q d (subst (λ z. HasDeg R z 0) e (deg-con R c h))
+
+  -- so nothing but constants divides two coprime polynomials
+  pub coprime-constant : (a b d : Poly R) → Coprime (Poly-ring R) a b → Dvd (Poly-ring R) d a → Dvd (Poly-ring R) d b → HasDeg R d 0
+  coprime-constant a b d (u, v, e) h k = dvd-constant d (R .one) (D .proper) (let (q, f) = dvd-combination (Poly-ring R) d a b u v h k in (q, sym e ∙ f))

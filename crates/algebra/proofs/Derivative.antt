@@ -1,8 +1,8 @@
 -- The derivative of a polynomial: linear, the rules of the product and of the power, and where it vanishes.
 use mathlib.Core.Path.{_≡_, refl, sym, _∙_, ap, ap₂, fun-ext}
 use mathlib.Core.Logic.{_≢_, ∥∥₁-map}
-use mathlib.Core.List.{List, [], _∷_}
-use Prim.Native.Nat.{ℕ, zero, suc, _≤_}
+use mathlib.Core.List.{[], _∷_}
+use Prim.Native.Nat.{ℕ, zero, suc}
 use native.Mathlib.Omega.{arith}
 use Rattle.algebra.proofs.Ring.{CRing, Domain, nat, pow, by1, by2, mul-nil, mul-neg}
 use Rattle.algebra.proofs.Reflect.{ring!, reify}
@@ -14,7 +14,7 @@ use Rattle.algebra.proofs.Degree.{HasDeg}
 use Rattle.algebra.proofs.ZeroProduct.{nil-right, ne-mul}
 
 module _ {A : Type 0} (R : CRing A) where
-  open CRing R using (add as _+_, mul as _*_, neg as -_, nil as 𝟘, one as 𝟙)
+  open CRing R using (add as _+_, mul as _*_, neg as -_, one as 𝟙)
 
   infixl 60 _+_
   infixl 70 _*_

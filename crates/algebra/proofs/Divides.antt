@@ -1,7 +1,7 @@
 -- Divisibility and coprime elements in a commutative ring.
-use mathlib.Core.Path.{_≡_, refl, sym, _∙_, ap, ap₂}
+use mathlib.Core.Path.{_≡_, refl, sym, _∙_, ap₂}
 use mathlib.Core.Logic.{_≢_}
-use mathlib.Core.List.{List, [], _∷_}
+use mathlib.Core.List.{[], _∷_}
 use Prim.Native.Nat.{ℕ, zero, suc}
 use Rattle.algebra.proofs.Ring.{CRing, Domain, pow, by1, by2, one-mul, nil-mul}
 use Rattle.algebra.proofs.Reflect.{ring!, reify}

@@ -1,15 +1,15 @@
 -- Division of polynomials with remainder: it can be done over a field, and its outcome is the only one over a domain.
-use mathlib.Core.Path.{_≡_, refl, sym, _∙_, ap}
-use mathlib.Core.Logic.{_≢_}
-use mathlib.Core.List.{List, [], _∷_}
-use Prim.Native.Nat.{ℕ, zero, suc, _≤_, _<_, _-_ as _-ⁿ_}
+use mathlib.Core.Path.{_≡_, sym, _∙_, ap}
+use mathlib.Core.List.{[], _∷_}
+use Prim.Native.Nat.{ℕ, zero, suc, _≤_, _-_ as _-ⁿ_}
 use native.Mathlib.Omega.{arith}
 use native.Mathlib.Decide.{decLe, ℕ-discrete}
 use Rattle.algebra.proofs.Ring.{CRing, Domain, Field, Field-domain, by1, by2, sub-nil}
 use Rattle.algebra.proofs.Reflect.{ring!, reify}
 use Rattle.algebra.proofs.Series.{mulS, Below}
-use Rattle.algebra.proofs.Poly.{Poly, addP, mulP, negP, nilP, conP, Poly-ring, mk-poly}
+use Rattle.algebra.proofs.Poly.{Poly, addP, mulP, negP, nilP, conP, Poly-ring, mk-poly, nil-at}
 use Rattle.algebra.proofs.Monomials.{monS, monP, mon-mul}
+use Rattle.algebra.proofs.Divides.{Dvd}
 use Rattle.algebra.proofs.Degree.{HasDeg, lengthP, length-below, sum-below, neg-below, short-multiple}
 
 module _ {A : Type 0} (R : CRing A) where
@@ -19,6 +19,10 @@ module _ {A : Type 0} (R : CRing A) where
     pub rem : Poly R
     pub is : a ≡ addP R (mulP R b quot) rem
     pub small : Below R m (rem .0)
+
+  -- b divides a exactly if nothing remains
+  pub nil-rem : (b : Poly R) (m : ℕ) (a : Poly R) (z : Division b m a) → z .rem ≡ nilP R → Dvd (Poly-ring R) b a
+  nil-rem b m a z e = (z .quot, z .is ∙ by1 (Poly-ring R) (conP R (R .one)) e (ring! (Poly-ring R) (b ∷ z .quot ∷ z .rem ∷ []) (search reify depth 30 fits 20000) tt))
 
 module _ {A : Type 0} (D : Domain A) where
   abbrev R : CRing A
@@ -38,6 +42,9 @@ module _ {A : Type 0} (D : Domain A) where
     pub rem-unique : x .rem ≡ y .rem
     rem-unique = by2 (Poly-ring R) (conP R (R .one)) (sym (x .is) ∙ y .is) (negP R b) quot-unique
         (ring! (Poly-ring R) (b ∷ x .quot ∷ y .quot ∷ x .rem ∷ y .rem ∷ []) (search reify depth 30 fits 20000) tt)
+
+  pub rem-nil : (b : Poly R) (m : ℕ) → HasDeg R b m → (a : Poly R) (z : Division R b m a) → Dvd (Poly-ring R) b a → z .rem ≡ nilP R
+  rem-nil b m d a z (q, e) = rem-unique b m d a z (record { quot = q; rem = nilP R; is = e ∙ ring! (Poly-ring R) (b ∷ q ∷ []) (search reify depth 30 fits 20000) tt; small = λ k h. nil-at R k })
 
 module _ {A : Type 0} (K : Field A) where
   abbrev F : CRing A

@@ -5,7 +5,7 @@ use native.Mathlib.Omega.{arith}
 use Rattle.algebra.proofs.Ring.{CRing, Field, Field-domain}
 use Rattle.algebra.proofs.Series.{Below}
 use Rattle.algebra.proofs.Poly.{Poly, nilP, Poly-ring, nil-below}
-use Rattle.algebra.proofs.Degree.{HasDeg, Size, null, sized, size, lengthP, length-below, deg-bound}
+use Rattle.algebra.proofs.Degree.{Size, null, sized, size, lengthP, length-below, deg-bound}
 use Rattle.algebra.proofs.Division.{Division, divide}
 use Rattle.algebra.proofs.Bezout.{Bezout, bez-nil, bez-step}
 

@@ -1,12 +1,13 @@
 -- The value of a polynomial at a point: a ring homomorphism, and Horner's rule on lists.
-use mathlib.Core.Path.{_≡_, refl, sym, _∙_, ap, ap₂, subst, fun-ext}
+use mathlib.Core.Path.{_≡_, refl, sym, _∙_, ap, ap₂, fun-ext}
 use mathlib.Core.HLevel.{Π-prop, Σ-prop-path}
 use mathlib.Core.List.{List, [], _∷_}
 use Prim.Native.Nat.{ℕ, zero, suc, _≤_, _+_ as _+ⁿ_}
 use native.Mathlib.Omega.{arith}
-use Rattle.algebra.proofs.Ring.{CRing, pow, by1, by2, nil-mul, mul-nil, neg-unique}
+use Rattle.algebra.proofs.Ring.{CRing, pow, by1, by2, nil-mul, mul-nil}
 use Rattle.algebra.proofs.Reflect.{ring!, reify}
-use Rattle.algebra.proofs.Series.{Ser, tl, addS, mulS, negS, nilS, Below, nil-mulS, below-add, below-mul, below-neg}
+use Rattle.algebra.proofs.RingMap.{RingMap, map-neg, map-pow}
+use Rattle.algebra.proofs.Series.{Ser, tl, addS, mulS, nilS, Below, nil-mulS, below-add, below-mul}
 use Rattle.algebra.proofs.Poly.{Poly, addP, mulP, negP, nilP, conP, Poly-ring, mk-poly, by-bound, nil-at}
 use Rattle.algebra.proofs.Constants.{con-at-zero}
 use Rattle.algebra.proofs.Monomials.{monS, mon-below, monP, X}
@@ -109,13 +110,14 @@ module _ {A : Type 0} (R : CRing A) where
       ∙ val-mul m n (m +ⁿ n) (p .0) (q .0) r (omega arith) hm hn
       ∙ sym (ap₂ _*_ (ev-is p r m hm) (ev-is q r n hn)))
 
+  abbrev pub ev-map : A → RingMap (Poly-ring R) R
+  ev-map r = record { to = λ p. ev p r; to-nil = ev-nil r; to-one = ev-con 𝟙 r; to-add = λ p q. ev-add p q r; to-mul = λ p q. ev-mul p q r }
+
   pub ev-neg : (p : Poly R) (r : A) → ev (negP R p) r ≡ - ev p r
-  ev-neg p r = neg-unique R (ev p r) (ev (negP R p) r) (sym (ev-add p (negP R p) r) ∙ ap (λ z. ev z r) (Poly-ring R .add-neg p) ∙ ev-nil r)
+  ev-neg p r = map-neg (Poly-ring R) R (ev-map r) p
 
   pub ev-pow : (p : Poly R) (n : ℕ) (r : A) → ev (pow (Poly-ring R) p n) r ≡ pow R (ev p r) n
-  unfolding pow
-  ev-pow p zero r = ev-con 𝟙 r
-  ev-pow p (suc n) r = ev-mul (pow (Poly-ring R) p n) p r ∙ ap (λ z. z * ev p r) (ev-pow p n r)
+  ev-pow p n r = map-pow (Poly-ring R) R (ev-map r) p n
 
   pub ev-X : (r : A) → ev (X R) r ≡ r
   unfolding X monP monS mk-poly val

@@ -5,6 +5,7 @@ pub mod Reflect
 pub mod Fraction
 pub mod Rational
 pub mod Series
+pub mod RingMap
 pub mod Divides
 pub mod ZeroProduct
 pub mod Poly
@@ -15,6 +16,7 @@ pub mod Bezout
 pub mod WholeGcd
 pub mod Euclid
 pub mod Monic
+pub mod Gcd
 pub mod Lowest
 pub mod Derivative
 pub mod Canon

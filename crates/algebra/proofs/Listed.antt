@@ -1,7 +1,7 @@
 -- A list of coefficients read as a polynomial, and the list of a polynomial's coefficients.
-use mathlib.Core.Path.{_≡_, refl, sym, _∙_, ap, ap₂, subst}
+use mathlib.Core.Path.{_≡_, refl, sym, _∙_, ap, ap₂}
 use mathlib.Core.List.{List, [], _∷_}
-use Prim.Native.Nat.{ℕ, zero, suc, _≤_}
+use Prim.Native.Nat.{ℕ, zero, suc}
 use native.Mathlib.Omega.{arith}
 use lib.ListN.{length, getD}
 use Rattle.algebra.proofs.Ring.{CRing, Domain, nil-add}
@@ -12,13 +12,18 @@ use Rattle.algebra.proofs.Monomials.{X, X-mul-zero, X-mul-suc}
 use Rattle.algebra.proofs.Degree.{lengthP, length-below}
 
 module _ {A : Type 0} (R : CRing A) where
-  open CRing R using (add as _+_, mul as _*_, neg as -_, nil as 𝟘, one as 𝟙)
+  open CRing R using (add as _+_, nil as 𝟘)
 
   infixl 60 _+_
   -- the list's i-th element is the coefficient of xⁱ
   unfoldable pub polyOf : List A → Poly R
   polyOf [] = nilP R
   polyOf (a ∷ l) = addP R (conP R a) (mulP R (X R) (polyOf l))
+
+  -- Horner's law
+  pub polyOf-cons : (a : A) (l : List A) → polyOf (a ∷ l) ≡ addP R (conP R a) (mulP R (X R) (polyOf l))
+  unfolding polyOf
+  polyOf-cons a l = refl
 
   pub polyOf-at : (l : List A) (i : ℕ) → polyOf l .0 i ≡ getD l i 𝟘
   unfolding polyOf

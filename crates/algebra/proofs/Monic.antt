@@ -1,25 +1,20 @@
 -- Monic polynomials: products and quotients of them; two that divide each other are equal.
-use mathlib.Core.Path.{_≡_, refl, sym, _∙_, ap, ap₂, subst}
+use mathlib.Core.Path.{_≡_, sym, _∙_, ap, ap₂, subst}
 use mathlib.Core.Logic.{_≢_}
-use mathlib.Core.List.{List, [], _∷_}
-use Prim.Native.Nat.{ℕ, zero, suc, _≤_, _<_, _+_ as _+ⁿ_}
+use Prim.Native.Nat.{ℕ, zero, suc, _+_ as _+ⁿ_}
 use native.Mathlib.Omega.{arith}
-use Rattle.algebra.proofs.Ring.{CRing, Domain, Field, Field-domain, pow, one-mul, nil-mul, mul-nil, by1, by2}
-use Rattle.algebra.proofs.Reflect.{ring!, reify}
+use Rattle.algebra.proofs.Ring.{CRing, Domain, pow, one-mul, nil-mul}
 use Rattle.algebra.proofs.Series.{Below}
-use Rattle.algebra.proofs.Poly.{Poly, addP, mulP, negP, nilP, conP, Poly-ring}
-use Rattle.algebra.proofs.Constants.{con-at-zero, con-mul, con-mul-at, con-of, con-inj, con-nil}
-use Rattle.algebra.proofs.Degree.{HasDeg, Size, null, sized, size, degree-of, mul-lead, mul-below, con-below, deg-unique, deg-mul, deg-not-nil}
-use Rattle.algebra.proofs.Divides.{Dvd, dvd-unit, unit-dvd, dvd-multiple, dvd-trans, dvd-right, bez-dvd-a, bez-dvd-b, bez-greatest}
+use Rattle.algebra.proofs.Poly.{Poly, mulP, nilP, conP, Poly-ring}
+use Rattle.algebra.proofs.Constants.{con-at-zero, con-of}
+use Rattle.algebra.proofs.Degree.{HasDeg, Size, null, sized, size, mul-lead, mul-below, con-below, deg-unique, deg-mul, deg-not-nil}
+use Rattle.algebra.proofs.Divides.{Dvd, bez-dvd-a, bez-dvd-b, bez-greatest}
 use Rattle.algebra.proofs.Bezout.{Bezout}
-use Rattle.algebra.proofs.Euclid.{gcdP}
 
 module _ {A : Type 0} (R : CRing A) where
-  open CRing R using (add as _+_, mul as _*_, neg as -_, nil as 𝟘, one as 𝟙)
+  open CRing R using (mul as _*_, one as 𝟙)
 
-  infixl 60 _+_
   infixl 70 _*_
-  infix 75 -_
   -- the highest coefficient is 1
   pub record MonicP (p : Poly R) : Type 0 where
     pub degree : ℕ
@@ -45,11 +40,9 @@ module _ {A : Type 0} (D : Domain A) where
   abbrev R : CRing A
   R = D .ring
 
-  open CRing R using (add as _+_, mul as _*_, neg as -_, nil as 𝟘, one as 𝟙)
+  open CRing R using (mul as _*_, one as 𝟙)
 
-  infixl 60 _+_
   infixl 70 _*_
-  infix 75 -_
   pub monic-deg : (p : Poly R) (x : MonicP R p) → HasDeg R p (x .degree)
   monic-deg p x = record { leads = λ e. D .proper (sym (x .leads) ∙ e); ends = x .ends }
 
@@ -100,82 +93,3 @@ module _ {A : Type 0} (D : Domain A) where
     divides-b = bez-dvd-b (Poly-ring R) a b z;
     greatest = λ d h k. bez-greatest (Poly-ring R) a b d z h k;
   }
-
-module _ {A : Type 0} (K : Field A) where
-  abbrev F : CRing A
-  F = K .ring
-
-  con-unit : (c : A) → c ≢ F .nil → mulP F (conP F c) (conP F (K .inv c)) ≡ conP F (F .one)
-  con-unit c h = sym (con-mul F c (K .inv c)) ∙ ap (conP F) (K .mul-inv c h)
-
-  -- a constant factor changes nothing in what divides what
-  pub scaled-dvd : (c : A) (d p : Poly F) → c ≢ F .nil → Dvd (Poly-ring F) d p → Dvd (Poly-ring F) (mulP F (conP F c) d) p
-  scaled-dvd c d p h = dvd-unit (Poly-ring F) (conP F c) (conP F (K .inv c)) d p (con-unit c h)
-
-  pub unscaled-dvd : (c : A) (d p : Poly F) → Dvd (Poly-ring F) (mulP F (conP F c) d) p → Dvd (Poly-ring F) d p
-  unscaled-dvd c d p h = dvd-trans (Poly-ring F) d (mulP F (conP F c) d) p (dvd-right (Poly-ring F) d (conP F c)) h
-
-  pub dvd-scaled : (c : A) (d p : Poly F) → Dvd (Poly-ring F) d p → Dvd (Poly-ring F) d (mulP F (conP F c) p)
-  dvd-scaled c d p = dvd-multiple (Poly-ring F) d p (conP F c)
-
-  pub dvd-unscaled : (c : A) (d p : Poly F) → c ≢ F .nil → Dvd (Poly-ring F) d (mulP F (conP F c) p) → Dvd (Poly-ring F) d p
-  dvd-unscaled c d p h = unit-dvd (Poly-ring F) (conP F c) (conP F (K .inv c)) d p (con-unit c h)
-
-  -- p divided by its leading coefficient
-  pub record MonicForm (p : Poly F) : Type 0 where
-    pub lead : A
-    pub lead-ne : lead ≢ F .nil
-    pub form : Poly F
-    pub monic : MonicP F form
-    pub is : p ≡ mulP F (conP F lead) form
-    pub inverse : form ≡ mulP F (conP F (K .inv lead)) p
-
-  pub monic-form : (p : Poly F) → p ≢ nilP F → MonicForm p
-  monic-form p h =
-      let (n, d) = degree-of (Field-domain K) p h in
-      record {
-        lead = p .0 n;
-        lead-ne = d .leads;
-        form = mulP F (conP F (K .inv (p .0 n))) p;
-        monic = record {
-          degree = n;
-          leads = con-mul-at F (K .inv (p .0 n)) p n ∙ F .mul-comm (K .inv (p .0 n)) (p .0 n) ∙ K .mul-inv (p .0 n) (d .leads);
-          ends = λ k l. con-mul-at F (K .inv (p .0 n)) p k ∙ ap (F .mul (K .inv (p .0 n))) (d .ends k l) ∙ mul-nil F (K .inv (p .0 n));
-        };
-        is = by1 (Poly-ring F) (negP F p) (con-unit (p .0 n) (d .leads))
-            (ring! (Poly-ring F) (p ∷ conP F (p .0 n) ∷ conP F (K .inv (p .0 n)) ∷ []) (search reify depth 30 fits 20000) tt);
-        inverse = refl;
-      }
-
-  pub record MonicGcd (a b : Poly F) : Type 0 where
-    pub bezout : Bezout (Poly-ring F) a b
-    pub monic : MonicP F (bezout .g)
-
-  bez-nil-only : (a b : Poly F) (z : Bezout (Poly-ring F) a b) → z .g ≡ nilP F → (a ≡ nilP F) × (b ≡ nilP F)
-  bez-nil-only a b z e = (
-    z .div-a ∙ ap (λ t. mulP F t (z .a′)) e ∙ nil-mul (Poly-ring F) (z .a′),
-    z .div-b ∙ ap (λ t. mulP F t (z .b′)) e ∙ nil-mul (Poly-ring F) (z .b′),
-  )
-
-  -- there is a monic one unless both are zero
-  pub monic-gcd : (a b : Poly F) → (a ≡ nilP F → b ≡ nilP F → ⊥) → MonicGcd a b
-  monic-gcd a b h =
-      let z : Bezout (Poly-ring F) a b = gcdP K a b in
-      let m : MonicForm (z .g) = monic-form (z .g) (λ e. h (bez-nil-only a b z e .0) (bez-nil-only a b z e .1)) in
-      let c : Poly F = conP F (K .inv (m .lead)) in
-      record {
-        bezout = record {
-          g = m .form;
-          u = mulP F c (z .u);
-          v = mulP F c (z .v);
-          a′ = mulP F (conP F (m .lead)) (z .a′);
-          b′ = mulP F (conP F (m .lead)) (z .b′);
-          comb = by2 (Poly-ring F) (conP F (F .one)) (m .inverse) c (z .comb)
-              (ring! (Poly-ring F) (a ∷ b ∷ c ∷ m .form ∷ z .g ∷ z .u ∷ z .v ∷ []) (search reify depth 30 fits 20000) tt);
-          div-a = by2 (Poly-ring F) (conP F (F .one)) (z .div-a) (z .a′) (m .is)
-              (ring! (Poly-ring F) (a ∷ conP F (m .lead) ∷ m .form ∷ z .g ∷ z .a′ ∷ []) (search reify depth 30 fits 20000) tt);
-          div-b = by2 (Poly-ring F) (conP F (F .one)) (z .div-b) (z .b′) (m .is)
-              (ring! (Poly-ring F) (b ∷ conP F (m .lead) ∷ m .form ∷ z .g ∷ z .b′ ∷ []) (search reify depth 30 fits 20000) tt);
-        };
-        monic = m .monic;
-      }

@@ -1,19 +1,18 @@
 -- The monomials c xʲ and the variable X, and what multiplying by them does to the coefficients.
-use mathlib.Core.Path.{_≡_, refl, sym, _∙_, ap, ap₂, subst}
-use mathlib.Core.List.{List, [], _∷_}
-use Prim.Native.Nat.{ℕ, zero, suc, _≤_, _<_, _+_ as _+ⁿ_}
+use mathlib.Core.Path.{_≡_, refl, sym, _∙_, ap, subst}
+use mathlib.Core.List.{[], _∷_}
+use Prim.Native.Nat.{ℕ, zero, suc, _<_, _+_ as _+ⁿ_}
 use native.Mathlib.Omega.{arith}
-use Rattle.algebra.proofs.Ring.{CRing, pow, by1, by2, one-mul, nil-mul}
+use Rattle.algebra.proofs.Ring.{CRing, pow, by1, one-mul, nil-mul}
 use Rattle.algebra.proofs.Reflect.{ring!, reify}
 use Rattle.algebra.proofs.Series.{Ser, mulS, nilS, conS, Below, nil-mulS}
 use Rattle.algebra.proofs.Poly.{Poly, mulP, conP, Poly-ring, mk-poly, poly-ext}
 
 module _ {A : Type 0} (R : CRing A) where
-  open CRing R using (add as _+_, mul as _*_, neg as -_, nil as 𝟘, one as 𝟙)
+  open CRing R using (add as _+_, mul as _*_, nil as 𝟘, one as 𝟙)
 
   infixl 60 _+_
   infixl 70 _*_
-  infix 75 -_
   -- c xʲ
   unfoldable pub monS : A → ℕ → Ser R
   monS c zero zero = c

@@ -1,13 +1,11 @@
 -- Polynomials: the series that end. A commutative ring with path equality; p .0 n is the coefficient of xⁿ.
-use mathlib.Core.Path.{_≡_, refl, sym, _∙_, ap, ap₂, subst, fun-ext}
-use mathlib.Core.HLevel.{Π-set, Σ-set, Σ-prop-path, prop→set}
-use mathlib.Core.Logic.{_≢_, ∥∥₁-prop, ∥∥₁-map, ∥∥₁-map₂, ∥∥₁-elim}
-use mathlib.Core.List.{List, [], _∷_}
-use Prim.Native.Nat.{ℕ, zero, suc, _≤_, _+_ as _+ⁿ_}
+use mathlib.Core.Path.{_≡_, refl, sym, _∙_, fun-ext}
+use mathlib.Core.HLevel.{Σ-set, Σ-prop-path, prop→set}
+use mathlib.Core.Logic.{∥∥₁-prop, ∥∥₁-map, ∥∥₁-map₂, ∥∥₁-elim}
+use Prim.Native.Nat.{ℕ, _+_ as _+ⁿ_}
 use native.Mathlib.Omega.{arith}
-use Rattle.algebra.proofs.Ring.{CRing, Field, by1, by2}
-use Rattle.algebra.proofs.Reflect.{ring!, reify}
-use Rattle.algebra.proofs.Series.{Ser, tl, addS, mulS, negS, nilS, conS, Ser-ring, Below, below-mul, below-add, below-neg, below-con}
+use Rattle.algebra.proofs.Ring.{CRing}
+use Rattle.algebra.proofs.Series.{Ser, addS, mulS, negS, nilS, conS, Ser-ring, Below, below-mul, below-add, below-neg, below-con}
 
 module _ {A : Type 0} (R : CRing A) where
   unfoldable pub IsPoly : Ser R → Type 0

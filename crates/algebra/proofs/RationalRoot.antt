@@ -1,12 +1,13 @@
 -- The rational root theorem: numerator and denominator of a root divide the ends of the polynomial.
-use mathlib.Core.Path.{_≡_, refl, sym, _∙_, ap, ap₂, subst}
+use mathlib.Core.Path.{_≡_, refl, sym, _∙_, ap, ap₂}
 use mathlib.Core.Logic.{_≢_}
 use mathlib.Core.List.{List, [], _∷_, _++_, map}
-use Prim.Native.Nat.{ℕ, zero, suc}
+use Prim.Native.Nat.{suc}
 use lib.ListN.{length, length-map}
 use Rattle.algebra.proofs.Ring.{CRing, Domain, pow, by1, by2, mul-nil}
 use Rattle.algebra.proofs.Reflect.{ring!, reify}
 use Rattle.algebra.proofs.Divides.{Dvd, Coprime, coprime-swap, coprime-pow, coprime-dvd}
+use Rattle.algebra.proofs.RingMap.{RingMap, map-pow}
 use Rattle.algebra.proofs.ZeroProduct.{nil-right, ne-pow}
 use Rattle.algebra.proofs.Evaluation.{horner}
 
@@ -50,26 +51,13 @@ module _ {A : Type 0} (R : CRing A) where
   hom-value (a ∷ l) x r s e = by2 R r (hom-value l x r s e) (- (pow R s (length l) * horner R l x)) e
       (ring! R (a ∷ x ∷ r ∷ s ∷ hom l r s ∷ horner R l x ∷ pow R s (length l) ∷ []) (search reify depth 30 fits 20000) tt)
 
--- a ring homomorphism
-pub record RingMap {A B : Type 0} (R : CRing A) (S : CRing B) : Type 0 where
-  pub to : A → B
-  pub to-nil : to (R .nil) ≡ S .nil
-  pub to-one : to (R .one) ≡ S .one
-  pub to-add : (a b : A) → to (R .add a b) ≡ S .add (to a) (to b)
-  pub to-mul : (a b : A) → to (R .mul a b) ≡ S .mul (to a) (to b)
-
 module _ {A B : Type 0} (R : CRing A) (S : CRing B) (φ : RingMap R S) where
-  map-pow : (a : A) (n : ℕ) → φ .to (pow R a n) ≡ pow S (φ .to a) n
-  unfolding pow
-  map-pow a zero = φ .to-one
-  map-pow a (suc n) = φ .to-mul (pow R a n) a ∙ ap (λ z. S .mul z (φ .to a)) (map-pow a n)
-
   pub map-hom : (l : List A) (r s : A) → φ .to (hom R l r s) ≡ hom S (map (φ .to) l) (φ .to r) (φ .to s)
   unfolding hom
   map-hom [] r s = φ .to-nil
   map-hom (a ∷ l) r s =
       φ .to-add _ _ ∙ ap₂ (S .add)
-      (φ .to-mul a _ ∙ ap (S .mul (φ .to a)) (map-pow s (length l) ∙ ap (pow S (φ .to s)) (sym (length-map l (φ .to)))))
+      (φ .to-mul a _ ∙ ap (S .mul (φ .to a)) (map-pow R S φ s (length l) ∙ ap (pow S (φ .to s)) (sym (length-map l (φ .to)))))
       (φ .to-mul r _ ∙ ap (S .mul (φ .to r)) (map-hom l r s))
 
 -- a root r / s in a larger domain is a zero of the sum in the smaller ring

@@ -1,11 +1,11 @@
 -- Roots: Horner's rule is the remainder by x − r, a root splits off a linear factor, and there are no more roots than the degree.
-use mathlib.Core.Path.{_≡_, refl, sym, _∙_, ap, ap₂, subst}
+use mathlib.Core.Path.{_≡_, sym, _∙_, ap, ap₂, subst}
 use mathlib.Core.Logic.{_≢_, _⊎_, inl, inr}
-use mathlib.Core.List.{List, [], _∷_, List·Mem, List·Nodup, Pairwise·nil, Pairwise·cons, mem-cons-self, mem-cons-of-mem}
-use Prim.Native.Nat.{ℕ, zero, suc, _≤_, _+_ as _+ⁿ_}
+use mathlib.Core.List.{List, [], _∷_, List·Mem, List·Nodup, Pairwise·cons, mem-cons-self, mem-cons-of-mem}
+use Prim.Native.Nat.{ℕ, zero, suc, _≤_}
 use native.Mathlib.Omega.{arith}
 use lib.ListN.{length}
-use Rattle.algebra.proofs.Ring.{CRing, Domain, pow, by1, by2, one-mul, nil-mul, mul-nil, sub-nil}
+use Rattle.algebra.proofs.Ring.{CRing, Domain, Field, pow, by1, by2, one-mul, nil-mul, mul-nil, sub-nil}
 use Rattle.algebra.proofs.Reflect.{ring!, reify}
 use Rattle.algebra.proofs.Poly.{Poly, Poly-ring, mk-poly, addP, mulP, negP, nilP, conP, add-at, neg-at}
 use Rattle.algebra.proofs.Constants.{con-nil, con-add, con-mul, con-at-suc}
@@ -15,7 +15,7 @@ use Rattle.algebra.proofs.ZeroProduct.{nil-left, nil-factor}
 use Rattle.algebra.proofs.Divides.{Dvd}
 use Rattle.algebra.proofs.Monic.{MonicP, monic-deg}
 use Rattle.algebra.proofs.Listed.{polyOf, toList, polyOf-toList}
-use Rattle.algebra.proofs.Evaluation.{ev, ev-con, ev-nil, ev-X, ev-add, ev-mul, ev-neg, horner, ev-polyOf}
+use Rattle.algebra.proofs.Evaluation.{val, ev, ev-is, ev-con, ev-X, ev-add, ev-mul, ev-neg, horner, ev-polyOf}
 
 module _ {A : Type 0} (R : CRing A) where
   open CRing R using (add as _+_, mul as _*_, neg as -_, nil as 𝟘, one as 𝟙)
@@ -62,7 +62,7 @@ module _ {A : Type 0} (D : Domain A) where
   abbrev R : CRing A
   R = D .ring
 
-  open CRing R using (add as _+_, mul as _*_, neg as -_, nil as 𝟘, one as 𝟙)
+  open CRing R using (add as _+_, mul as _*_, neg as -_, nil as 𝟘)
 
   infixl 60 _+_
   infixl 70 _*_
@@ -149,3 +149,17 @@ module _ {A : Type 0} (D : Domain A) where
 
   pub multiplicity : (p : Poly R) → p ≢ nilP R → (r : A) → Multiplicity p r
   multiplicity p h r = let (n, d) = degree-of D p h in multiplicity-from n p d r
+
+module _ {A : Type 0} (K : Field A) where
+  abbrev F : CRing A
+  F = K .ring
+
+  -- degree 1 has a root
+  pub linear-root : (p : Poly F) → HasDeg F p 1 → (r : A) × (ev F p r ≡ F .nil)
+  unfolding val
+  linear-root p d =
+      let r : A = F .neg (F .mul (p .0 0) (K .inv (p .0 1))) in (
+        r,
+        ev-is F p r 2 (d .ends) ∙ by1 F (F .neg (p .0 0)) (K .mul-inv (p .0 1) (d .leads))
+            (ring! F (p .0 0 ∷ p .0 1 ∷ K .inv (p .0 1) ∷ []) (search reify depth 30 fits 20000) tt),
+      )
