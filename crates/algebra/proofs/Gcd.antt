@@ -16,7 +16,7 @@ module _ {A : Type 0} (K : Field A) where
   abbrev F : CRing A
   F = K .ring
 
-  con-unit : (c : A) → c ≢ F .nil → mulP F (conP F c) (conP F (K .inv c)) ≡ conP F (F .one)
+  pub con-unit : (c : A) → c ≢ F .nil → mulP F (conP F c) (conP F (K .inv c)) ≡ conP F (F .one)
   con-unit c h = sym (con-mul F c (K .inv c)) ∙ ap (conP F) (K .mul-inv c h)
 
   -- a constant factor changes nothing in what divides what

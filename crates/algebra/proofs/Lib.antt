@@ -19,6 +19,8 @@ pub mod Monic
 pub mod Gcd
 pub mod Lowest
 pub mod Derivative
+pub mod SquareFree
+pub mod Yun
 pub mod Canon
 pub mod Listed
 pub mod Evaluation

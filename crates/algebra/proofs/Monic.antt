@@ -1,13 +1,13 @@
 -- Monic polynomials: products and quotients of them; two that divide each other are equal.
 use mathlib.Core.Path.{_≡_, sym, _∙_, ap, ap₂, subst}
 use mathlib.Core.Logic.{_≢_}
-use Prim.Native.Nat.{ℕ, zero, suc, _+_ as _+ⁿ_}
+use Prim.Native.Nat.{ℕ, zero, suc, _<_, _+_ as _+ⁿ_}
 use native.Mathlib.Omega.{arith}
 use Rattle.algebra.proofs.Ring.{CRing, Domain, pow, one-mul, nil-mul}
 use Rattle.algebra.proofs.Series.{Below}
 use Rattle.algebra.proofs.Poly.{Poly, mulP, nilP, conP, Poly-ring}
 use Rattle.algebra.proofs.Constants.{con-at-zero, con-of}
-use Rattle.algebra.proofs.Degree.{HasDeg, Size, null, sized, size, mul-lead, mul-below, con-below, deg-unique, deg-mul, deg-not-nil}
+use Rattle.algebra.proofs.Degree.{HasDeg, Size, null, sized, size, mul-lead, mul-below, con-below, deg-bound, deg-unique, deg-mul, deg-not-nil}
 use Rattle.algebra.proofs.Divides.{Dvd, bez-dvd-a, bez-dvd-b, bez-greatest}
 use Rattle.algebra.proofs.Bezout.{Bezout}
 
@@ -50,8 +50,11 @@ module _ {A : Type 0} (D : Domain A) where
   monic-not-nil p x = deg-not-nil R p (x .degree) (monic-deg p x)
 
   -- a monic constant is 1
-  pub monic-constant : (p : Poly R) (x : MonicP R p) → HasDeg R p 0 → p ≡ conP R 𝟙
-  monic-constant p x d = con-of R p (d .ends) ∙ ap (conP R) (ap (p .0) (deg-unique R p 0 (x .degree) d (monic-deg p x)) ∙ x .leads)
+  pub monic-constant : (p : Poly R) → MonicP R p → Below R 1 (p .0) → p ≡ conP R 𝟙
+  monic-constant p x h =
+      let l : x .degree < 1 = deg-bound R p (x .degree) 1 (monic-deg p x) h in
+      let z : 0 ≡ x .degree = omega arith in
+      con-of R p h ∙ ap (conP R) (ap (p .0) z ∙ x .leads)
 
   -- a monic multiple of a monic polynomial has a monic quotient
   pub monic-quotient : (q p : Poly R) → MonicP R p → MonicP R (mulP R q p) → MonicP R q
@@ -72,7 +75,7 @@ module _ {A : Type 0} (D : Domain A) where
       deg-unique R q (y .degree) (xa .degree +ⁿ x .degree) (monic-deg q y) (subst (λ t. HasDeg R t (xa .degree +ⁿ x .degree)) (sym e) (deg-mul D a p (xa .degree) (x .degree) (monic-deg a xa) (monic-deg p x))) in
       let db : x .degree ≡ xb .degree +ⁿ y .degree =
       deg-unique R p (x .degree) (xb .degree +ⁿ y .degree) (monic-deg p x) (subst (λ t. HasDeg R t (xb .degree +ⁿ y .degree)) (sym f) (deg-mul D b q (xb .degree) (y .degree) (monic-deg b xb) (monic-deg q y))) in
-      let one : a ≡ conP R 𝟙 = monic-constant a xa (subst (HasDeg R a) (omega arith) (monic-deg a xa)) in
+      let one : a ≡ conP R 𝟙 = monic-constant a xa (λ k l. xa .ends k (omega arith)) in
       sym (e ∙ ap (λ t. mulP R t p) one ∙ one-mul (Poly-ring R) p)
 
   -- so there is at most one monic greatest common divisor
