@@ -193,6 +193,9 @@ module _ {A : Type 0} (D : Domain A) where
     ends = mul-below R p q m n (d .ends) (e .ends);
   }
 
+  pub deg-scaled : (c : A) (p : Poly R) (n : ℕ) → c ≢ R .nil → HasDeg R p n → HasDeg R (mulP R (conP R c) p) n
+  deg-scaled c p n h d = subst (HasDeg R (mulP R (conP R c) p)) (omega arith) (deg-mul (conP R c) p 0 n (deg-con R c h) d)
+
   pub no-zero-div : (p q : Poly R) → q ≢ nilP R → mulP R p q ≡ nilP R → p ≡ nilP R
   no-zero-div p q h e = go (size p) (size q)
     where

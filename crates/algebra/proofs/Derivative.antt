@@ -91,6 +91,13 @@ module _ {A : Type 0} (R : CRing A) where
       go zero = ring! R [] (search reify depth 30 fits 20000) tt
       go (suc n) = mul-nil R (nat R (suc (suc n)))
 
+  -- (a + x p)′ = p + x p′
+  pub der-horner : (a : A) (p : Poly R) → derP (addP R (conP R a) (mulP R (X R) p)) ≡ addP R p (mulP R (X R) (derP p))
+  der-horner a p =
+      der-add (conP R a) (mulP R (X R) p) ∙ ap (addP R (derP (conP R a))) (der-mul (X R) p)
+      ∙ by2 (Poly-ring R) (conP R 𝟙) (der-con a) p der-X
+      (ring! (Poly-ring R) (p ∷ derP p ∷ X R ∷ derP (X R) ∷ derP (conP R a) ∷ []) (search reify depth 30 fits 20000) tt)
+
   -- (pⁿ⁺¹)′ = (n + 1) pⁿ p′
   pub der-pow : (p : Poly R) (n : ℕ) → derP (pow (Poly-ring R) p (suc n)) ≡ mulP R (mulP R (nat (Poly-ring R) (suc n)) (pow (Poly-ring R) p n)) (derP p)
   unfolding pow nat

@@ -59,6 +59,19 @@ module _ {A : Type 0} (R : CRing A) where
   pub dvd-cancel : (d p q : A) → Dvd d (p + q) → Dvd d p → Dvd d q
   dvd-cancel d p q (a, h) (b, k) = (a + - b, by2 R 𝟙 h (- 𝟙) k (ring! R (d ∷ p ∷ q ∷ a ∷ b ∷ []) (search reify depth 30 fits 20000) tt))
 
+  -- a = b q + r: what divides b divides a exactly if it divides r
+  pub dvd-rest : (d a b q r : A) → a ≡ b * q + r → Dvd d b → Dvd d a → Dvd d r
+  dvd-rest d a b q r e (m, h) (n, k) = (
+    n + - (m * q),
+    by2 R (- q) h 𝟙 (sym e ∙ k) (ring! R (d ∷ b ∷ q ∷ r ∷ m ∷ n ∷ []) (search reify depth 30 fits 20000) tt),
+  )
+
+  pub dvd-whole : (d a b q r : A) → a ≡ b * q + r → Dvd d b → Dvd d r → Dvd d a
+  dvd-whole d a b q r e (m, h) (n, k) = (
+    m * q + n,
+    e ∙ by2 R q h 𝟙 k (ring! R (d ∷ b ∷ q ∷ r ∷ m ∷ n ∷ []) (search reify depth 30 fits 20000) tt),
+  )
+
   -- a unit factor of the divisor, or of the multiple, changes nothing: c has the inverse c′
   pub dvd-unit : (c c′ d p : A) → c * c′ ≡ 𝟙 → Dvd d p → Dvd (c * d) p
   dvd-unit c c′ d p e (a, h) = (a * c′, by2 R (- (a * d)) e 𝟙 h (ring! R (c ∷ c′ ∷ d ∷ p ∷ a ∷ []) (search reify depth 30 fits 20000) tt))

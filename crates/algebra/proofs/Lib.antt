@@ -25,5 +25,6 @@ pub mod Canon
 pub mod Listed
 pub mod Evaluation
 pub mod Roots
+pub mod Embedding
 pub mod RationalRoot
 pub mod Degree

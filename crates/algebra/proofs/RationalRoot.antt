@@ -4,11 +4,13 @@ use mathlib.Core.Logic.{_≢_}
 use mathlib.Core.List.{List, [], _∷_, _++_, map}
 use Prim.Native.Nat.{suc}
 use lib.ListN.{length, length-map}
-use Rattle.algebra.proofs.Ring.{CRing, Domain, pow, by1, by2, mul-nil}
+use Rattle.algebra.proofs.Ring.{CRing, Domain, Field-domain, pow, by1, by2, mul-nil}
 use Rattle.algebra.proofs.Reflect.{ring!, reify}
 use Rattle.algebra.proofs.Divides.{Dvd, Coprime, coprime-swap, coprime-pow, coprime-dvd}
 use Rattle.algebra.proofs.RingMap.{RingMap, map-pow}
 use Rattle.algebra.proofs.ZeroProduct.{nil-right, ne-pow}
+use Rattle.algebra.proofs.Fraction.{fr, nilF, Frac-ring, Frac-field}
+use Rattle.algebra.proofs.Embedding.{into, into-map, into-only-nil, fr-mul-den}
 use Rattle.algebra.proofs.Evaluation.{horner}
 
 module _ {A : Type 0} (R : CRing A) where
@@ -74,3 +76,11 @@ module _ {A B : Type 0} (R : CRing A) (D : Domain B) (φ : RingMap R (D .ring)) 
     pub root-hom : ((a : A) → φ .to a ≡ D .ring .nil → a ≡ R .nil) → horner (D .ring) (map (φ .to) l) x ≡ D .ring .nil → hom R l r s ≡ R .nil
     root-hom only e = only (hom R l r s) (nil-right D (φ .to s) (φ .to (hom R l r s)) ne
         (linked ∙ ap (D .ring .mul (pow (D .ring) (φ .to s) (length (map (φ .to) l)))) e ∙ mul-nil (D .ring) (pow (D .ring) (φ .to s) (length (map (φ .to) l)))))
+
+-- at the fraction r / s of a domain
+module _ {A : Type 0} (D : Domain A) (l : List A) (r s : A) (h : s ≢ D .ring .nil) where
+  pub hom-fraction : hom (D .ring) l r s ≡ D .ring .nil → horner (Frac-ring D) (map (into D) l) (fr D r s h) ≡ nilF D
+  hom-fraction = hom-root (D .ring) (Field-domain (Frac-field D)) (into-map D) l (fr D r s h) r s (fr-mul-den D r s h) (λ e. h (into-only-nil D s e))
+
+  pub fraction-hom : horner (Frac-ring D) (map (into D) l) (fr D r s h) ≡ nilF D → hom (D .ring) l r s ≡ D .ring .nil
+  fraction-hom = root-hom (D .ring) (Field-domain (Frac-field D)) (into-map D) l (fr D r s h) r s (fr-mul-den D r s h) (λ e. h (into-only-nil D s e)) (into-only-nil D)
