@@ -1,4 +1,4 @@
--- The degree of a polynomial over a domain: the least bound is a function; degrees of products add; the polynomials are a domain.
+-- The degree of a polynomial; over a domain the least bound is a function, so a polynomial is zero or has a degree.
 use mathlib.Core.Path.{_≡_, refl, sym, _∙_, ap, subst, fun-ext}
 use mathlib.Core.Logic.{_≢_}
 use mathlib.Core.HLevel.{Π-prop, ×-prop, Σ-prop-path}
@@ -6,13 +6,11 @@ use mathlib.Core.List.{[], _∷_}
 use Prim.Native.Nat.{ℕ, zero, suc, _≤_, _<_, _+_ as _+ⁿ_}
 use native.Mathlib.Omega.{arith}
 use native.Mathlib.Bridge.{le-prop}
-use native.Mathlib.Decide.{ℕ-discrete, decLe}
-use Rattle.algebra.proofs.Ring.{CRing, Domain, by1, by2, nil-mul, sub-nil}
+use native.Mathlib.Decide.{decLe}
+use Rattle.algebra.proofs.Ring.{CRing, Domain, by1, by2}
 use Rattle.algebra.proofs.Reflect.{ring!, reify}
-use Rattle.algebra.proofs.Series.{Ser, tl, mulS, nilS, nil-mulS, Below, below-neg}
-use Rattle.algebra.proofs.Poly.{Poly, addP, mulP, negP, nilP, conP, Poly-ring, by-bound, nil-at, mul-at, nil-below}
-use Rattle.algebra.proofs.ZeroProduct.{ne-mul}
-use Rattle.algebra.proofs.Divides.{Dvd, Coprime, dvd-combination}
+use Rattle.algebra.proofs.Series.{Ser, tl, mulS, nilS, nil-mulS, Below, below-neg, below-down}
+use Rattle.algebra.proofs.Poly.{Poly, addP, mulP, negP, nilP, conP, by-bound, nil-at, mul-at, nil-below}
 use Rattle.algebra.proofs.Constants.{con-at-zero, con-at-suc}
 
 module _ {A : Type 0} (R : CRing A) where
@@ -35,7 +33,7 @@ module _ {A : Type 0} (R : CRing A) where
       by2 R (s zero) (ht (suc i) (omega arith)) 𝟙 (lead-mul m n i (tl R s) t (λ k h. hs (suc k) (omega arith)) ht (omega arith))
       (ring! R (s zero ∷ t (suc i) ∷ s (suc m) ∷ t n ∷ mulS R (tl R s) t i ∷ []) (search reify depth 30 fits 20000) tt)
 
-  -- nothing from the sum of the degrees on but the product of the leading coefficients
+  -- and nothing follows it
   mul-ends : (m n : ℕ) (s t : Ser R) → Below R (suc m) s → Below R (suc n) t → Below R (suc (m +ⁿ n)) (mulS R s t)
   unfolding mulS
   mul-ends zero n s t hs ht zero h = absurd (omega arith)
@@ -117,13 +115,6 @@ module _ {A : Type 0} (D : Domain A) where
   least zero s h = (0, (h, λ m g. omega arith))
   least (suc n) s h = go (λ b. least n s b) (D .discrete (s n) (R .nil))
     where
-      down : s n ≡ R .nil → Below R n s
-      down e k g = pick (ℕ-discrete k n)
-        where
-          pick : Dec (k ≡ n) → s k ≡ R .nil
-          pick (yes p) = ap s p ∙ e
-          pick (no f) = h k (omega arith)
-
       over : s n ≢ R .nil → (m : ℕ) → Below R m s → suc n ≤ m
       over f m b = pick (decLe m n)
         where
@@ -132,7 +123,7 @@ module _ {A : Type 0} (D : Domain A) where
           pick (no g) = omega arith
 
       go : (Below R n s → Least s) → Dec (s n ≡ R .nil) → Least s
-      go rec (yes e) = rec (down e)
+      go rec (yes e) = rec (below-down R n s h e)
       go rec (no f) = (suc n, (h, over f))
 
   least-of : (p : Poly R) → Least (p .0)
@@ -151,20 +142,16 @@ module _ {A : Type 0} (D : Domain A) where
   unfolding Least lengthP
   length-least p = least-of p .1 .1
 
+  -- the last of them is not 0
+  pub length-lead : (p : Poly R) (m : ℕ) → lengthP p ≡ suc m → p .0 m ≢ R .nil
+  length-lead p m e z =
+      let l : lengthP p ≤ m = length-least p m (below-down R m (p .0) (subst (λ n. Below R n (p .0)) e (length-below p)) z) in
+      absurd (omega arith)
+
   -- the polynomial is zero, or it has a degree
   pub data Size (p : Poly R) : Type 0 where
     null : p ≡ nilP R → Size p
     sized : (n : ℕ) → HasDeg R p n → Size p
-
-  pub length-lead : (p : Poly R) (m : ℕ) → lengthP p ≡ suc m → p .0 m ≢ R .nil
-  length-lead p m e z = let l : lengthP p ≤ m = length-least p m down in absurd (omega arith)
-    where
-      down : Below R m (p .0)
-      down k g = pick (ℕ-discrete k m)
-        where
-          pick : Dec (k ≡ m) → p .0 k ≡ R .nil
-          pick (yes f) = ap (p .0) f ∙ z
-          pick (no f) = length-below p k (omega arith)
 
   pub size : (p : Poly R) → Size p
   size p = go (lengthP p) refl
@@ -185,97 +172,3 @@ module _ {A : Type 0} (D : Domain A) where
       let a : lengthP p ≤ suc n = length-least p (suc n) (d .ends) in
       let b : n < lengthP p = deg-bound R p n (lengthP p) d (length-below p) in
       omega arith
-
-  -- the degree of a product
-  pub deg-mul : (p q : Poly R) (m n : ℕ) → HasDeg R p m → HasDeg R q n → HasDeg R (mulP R p q) (m +ⁿ n)
-  deg-mul p q m n d e = record {
-    leads = λ z. ne-mul D (p .0 m) (q .0 n) (d .leads) (e .leads) (sym (mul-lead R p q m n (d .ends) (e .ends)) ∙ z);
-    ends = mul-below R p q m n (d .ends) (e .ends);
-  }
-
-  pub deg-scaled : (c : A) (p : Poly R) (n : ℕ) → c ≢ R .nil → HasDeg R p n → HasDeg R (mulP R (conP R c) p) n
-  deg-scaled c p n h d = subst (HasDeg R (mulP R (conP R c) p)) (omega arith) (deg-mul (conP R c) p 0 n (deg-con R c h) d)
-
-  pub no-zero-div : (p q : Poly R) → q ≢ nilP R → mulP R p q ≡ nilP R → p ≡ nilP R
-  no-zero-div p q h e = go (size p) (size q)
-    where
-      go : Size p → Size q → p ≡ nilP R
-      go (null z) s = z
-      go (sized m d) (null z) = absurd (h z)
-      go (sized m d) (sized n d′) = absurd (deg-not-nil R (mulP R p q) (m +ⁿ n) (deg-mul p q m n d d′) e)
-
-  pub P-cancel : (a b c : Poly R) → c ≢ nilP R → mulP R a c ≡ mulP R b c → a ≡ b
-  P-cancel a b c h e = sub-nil (Poly-ring R) a b (no-zero-div (addP R a (negP R b)) c h
-      (by1 (Poly-ring R) (conP R (R .one)) e (ring! (Poly-ring R) (a ∷ b ∷ c ∷ []) (search reify depth 30 fits 20000) tt)))
-
-  dec-nil : (p : Poly R) → Dec (p ≡ nilP R)
-  dec-nil p = go (size p)
-    where
-      go : Size p → Dec (p ≡ nilP R)
-      go (null z) = yes z
-      go (sized n d) = no (deg-not-nil R p n d)
-
-  pub P-discrete : Discrete (Poly R)
-  P-discrete a b = go (dec-nil (addP R a (negP R b)))
-    where
-      go : Dec (addP R a (negP R b) ≡ nilP R) → Dec (a ≡ b)
-      go (yes e) = yes (sub-nil (Poly-ring R) a b e)
-      go (no f) = no (λ e. f (by1 (Poly-ring R) (conP R (R .one)) e (ring! (Poly-ring R) (a ∷ b ∷ []) (search reify depth 30 fits 20000) tt)))
-
-  pub P-proper : conP R (R .one) ≢ nilP R
-  P-proper = deg-not-nil R (conP R (R .one)) 0 (deg-con R (R .one) (D .proper))
-
-  abbrev pub Poly-domain : Domain (Poly R)
-  Poly-domain = record { ring = Poly-ring R; proper = P-proper; cancel = P-cancel; discrete = P-discrete }
-
-  -- the degrees of two factors add up to that of the product
-  pub record FactorDegrees (p q : Poly R) (k : ℕ) : Type 0 where
-    pub left : ℕ
-    pub right : ℕ
-    pub deg-left : HasDeg R p left
-    pub deg-right : HasDeg R q right
-    pub adds : k ≡ left +ⁿ right
-
-  pub deg-factors : (p q : Poly R) (k : ℕ) → HasDeg R (mulP R p q) k → FactorDegrees p q k
-  deg-factors p q k d = go (size p) (size q)
-    where
-      go : Size p → Size q → FactorDegrees p q k
-      go (null z) s = absurd (deg-not-nil R (mulP R p q) k d (ap (λ t. mulP R t q) z ∙ nil-mul (Poly-ring R) q))
-      go (sized m e) (null z) = absurd (deg-not-nil R (mulP R p q) k d (ap (λ t. mulP R p t) z ∙ ring! (Poly-ring R) (p ∷ []) (search reify depth 30 fits 20000) tt))
-      go (sized m e) (sized n e′) =
-          record { left = m; right = n; deg-left = e; deg-right = e′; adds = deg-unique R (mulP R p q) k (m +ⁿ n) d (deg-mul p q m n e e′) }
-
-  -- the factors of a constant are constants
-  pub deg-zero-left : (p q : Poly R) → HasDeg R (mulP R p q) 0 → HasDeg R p 0
-  deg-zero-left p q d =
-      let f = deg-factors p q 0 d in
-      subst (HasDeg R p) (let z = f .adds in omega arith) (f .deg-left)
-
-  pub deg-zero-right : (p q : Poly R) → HasDeg R (mulP R p q) 0 → HasDeg R q 0
-  deg-zero-right p q d =
-      let f = deg-factors p q 0 d in
-      subst (HasDeg R q) (let z = f .adds in omega arith) (f .deg-right)
-
-  -- a multiple that is shorter than what it is a multiple of is zero
-  pub short-multiple : (q p : Poly R) (n : ℕ) → HasDeg R p n → Below R n (mulP R q p .0) → q ≡ nilP R
-  short-multiple q p n d h = go (size q)
-    where
-      go : Size q → q ≡ nilP R
-      go (null z) = z
-      go (sized m e) =
-          let l : m +ⁿ n < n = deg-bound R (mulP R q p) (m +ⁿ n) n (deg-mul q p m n e d) h in
-          absurd (omega arith)
-
-  -- a divisor has no larger degree
-  pub dvd-degree : (d p : Poly R) (n : ℕ) → Dvd (Poly-ring R) d p → HasDeg R p n → (m : ℕ) × (HasDeg R d m × (m ≤ n))
-  dvd-degree d p n (q, e) h =
-      let f : FactorDegrees q d n = deg-factors q d n (subst (λ z. HasDeg R z n) e h) in
-      (f .right, (f .deg-right, let s = f .adds in omega arith))
-
-  -- what divides a constant that is not 0 is a constant
-  pub dvd-constant : (d : Poly R) (c : A) → c ≢ R .nil → Dvd (Poly-ring R) d (conP R c) → HasDeg R d 0
-  dvd-constant d c h (q, e) = deg-zero-right q d (subst (λ z. HasDeg R z 0) e (deg-con R c h))
-
-  -- so nothing but constants divides two coprime polynomials
-  pub coprime-constant : (a b d : Poly R) → Coprime (Poly-ring R) a b → Dvd (Poly-ring R) d a → Dvd (Poly-ring R) d b → HasDeg R d 0
-  coprime-constant a b d (u, v, e) h k = dvd-constant d (R .one) (D .proper) (let (q, f) = dvd-combination (Poly-ring R) d a b u v h k in (q, sym e ∙ f))

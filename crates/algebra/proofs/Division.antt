@@ -10,7 +10,8 @@ use Rattle.algebra.proofs.Series.{mulS, Below}
 use Rattle.algebra.proofs.Poly.{Poly, addP, mulP, negP, nilP, conP, Poly-ring, mk-poly, nil-at}
 use Rattle.algebra.proofs.Monomials.{monS, monP, mon-mul}
 use Rattle.algebra.proofs.Divides.{Dvd}
-use Rattle.algebra.proofs.Degree.{HasDeg, lengthP, length-below, sum-below, neg-below, short-multiple}
+use Rattle.algebra.proofs.Degree.{HasDeg, lengthP, length-below, sum-below, neg-below}
+use Rattle.algebra.proofs.PolyDomain.{short-multiple}
 
 module _ {A : Type 0} (R : CRing A) where
   -- a = b q + r, and r has no coefficient from m on

@@ -1,8 +1,8 @@
 -- A domain inside its field of fractions.
-use mathlib.Core.Path.{_≡_, refl, sym, _∙_, ap}
+use mathlib.Core.Path.{_≡_, sym, _∙_}
 use mathlib.Core.Logic.{_≢_}
 use mathlib.Core.List.{[], _∷_}
-use Rattle.algebra.proofs.Ring.{CRing, Domain, by1, nil-add, one-mul}
+use Rattle.algebra.proofs.Ring.{CRing, Domain, nil-add, one-mul}
 use Rattle.algebra.proofs.Reflect.{ring!, reify}
 use Rattle.algebra.proofs.RingMap.{RingMap}
 use Rattle.algebra.proofs.Fraction.{Frac, addF, mulF, nilF, oneF, fr, fr-eq, fr-inj, fr-add, fr-mul, fr-ind, Frac-set, Frac-ring}

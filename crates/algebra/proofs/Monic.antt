@@ -1,13 +1,14 @@
 -- Monic polynomials: products and quotients of them; two that divide each other are equal.
-use mathlib.Core.Path.{_≡_, sym, _∙_, ap, ap₂, subst}
+use mathlib.Core.Path.{_≡_, refl, sym, _∙_, ap, ap₂, subst}
 use mathlib.Core.Logic.{_≢_}
 use Prim.Native.Nat.{ℕ, zero, suc, _<_, _+_ as _+ⁿ_}
 use native.Mathlib.Omega.{arith}
 use Rattle.algebra.proofs.Ring.{CRing, Domain, pow, one-mul, nil-mul}
 use Rattle.algebra.proofs.Series.{Below}
 use Rattle.algebra.proofs.Poly.{Poly, mulP, nilP, conP, Poly-ring}
-use Rattle.algebra.proofs.Constants.{con-at-zero, con-of}
-use Rattle.algebra.proofs.Degree.{HasDeg, Size, null, sized, size, mul-lead, mul-below, con-below, deg-bound, deg-unique, deg-mul, deg-not-nil}
+use Rattle.algebra.proofs.Constants.{con-at-zero, con-mul-at, con-of}
+use Rattle.algebra.proofs.Degree.{HasDeg, Size, null, sized, size, mul-lead, mul-below, con-below, deg-bound, deg-unique, deg-not-nil}
+use Rattle.algebra.proofs.PolyDomain.{deg-adds, deg-scaled, associates}
 use Rattle.algebra.proofs.Divides.{Dvd, bez-dvd-a, bez-dvd-b, bez-greatest}
 use Rattle.algebra.proofs.Bezout.{Bezout}
 
@@ -63,20 +64,18 @@ module _ {A : Type 0} (D : Domain A) where
       go : Size D q → MonicP R q
       go (null e) = absurd (monic-not-nil (mulP R q p) y (ap (λ t. mulP R t p) e ∙ nil-mul (Poly-ring R) p))
       go (sized n d) =
-          let same : y .degree ≡ n +ⁿ x .degree = deg-unique R (mulP R q p) (y .degree) (n +ⁿ x .degree) (monic-deg (mulP R q p) y) (deg-mul D q p n (x .degree) d (monic-deg p x)) in
+          let same : y .degree ≡ n +ⁿ x .degree = deg-adds D (mulP R q p) q p (y .degree) n (x .degree) refl (monic-deg (mulP R q p) y) d (monic-deg p x) in
           let lead : q .0 n * p .0 (x .degree) ≡ 𝟙 = sym (mul-lead R q p n (x .degree) (d .ends) (x .ends)) ∙ ap (mulP R q p .0) (sym same) ∙ y .leads in
           record { degree = n; leads = sym (R .mul-one (q .0 n)) ∙ ap (λ z. q .0 n * z) (sym (x .leads)) ∙ lead; ends = d .ends }
 
   pub monic-same : (p q : Poly R) → MonicP R p → MonicP R q → Dvd (Poly-ring R) p q → Dvd (Poly-ring R) q p → p ≡ q
-  monic-same p q x y (a, e) (b, f) =
-      let xa : MonicP R a = monic-quotient a p x (subst (MonicP R) e y) in
-      let xb : MonicP R b = monic-quotient b q y (subst (MonicP R) f x) in
-      let da : y .degree ≡ xa .degree +ⁿ x .degree =
-      deg-unique R q (y .degree) (xa .degree +ⁿ x .degree) (monic-deg q y) (subst (λ t. HasDeg R t (xa .degree +ⁿ x .degree)) (sym e) (deg-mul D a p (xa .degree) (x .degree) (monic-deg a xa) (monic-deg p x))) in
-      let db : x .degree ≡ xb .degree +ⁿ y .degree =
-      deg-unique R p (x .degree) (xb .degree +ⁿ y .degree) (monic-deg p x) (subst (λ t. HasDeg R t (xb .degree +ⁿ y .degree)) (sym f) (deg-mul D b q (xb .degree) (y .degree) (monic-deg b xb) (monic-deg q y))) in
-      let one : a ≡ conP R 𝟙 = monic-constant a xa (λ k l. xa .ends k (omega arith)) in
-      sym (e ∙ ap (λ t. mulP R t p) one ∙ one-mul (Poly-ring R) p)
+  monic-same p q x y h k =
+      let (c, z) = associates D p q (monic-not-nil q y) k h in
+      let n : ℕ = y .degree in
+      let same : x .degree ≡ n = deg-unique R p (x .degree) n (monic-deg p x) (subst (λ t. HasDeg R t n) (sym (z .1)) (deg-scaled D c q n (z .0) (monic-deg q y))) in
+      let one : c ≡ 𝟙 =
+      sym (R .mul-one c) ∙ ap (λ t. c * t) (sym (y .leads)) ∙ sym (ap (λ t. t .0 n) (z .1) ∙ con-mul-at R c q n) ∙ ap (p .0) (sym same) ∙ x .leads in
+      z .1 ∙ ap (λ t. mulP R (conP R t) q) one ∙ one-mul (Poly-ring R) q
 
   -- so there is at most one monic greatest common divisor
   pub record IsGcdP (a b g : Poly R) : Type 0 where

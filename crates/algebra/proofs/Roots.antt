@@ -2,15 +2,16 @@
 use mathlib.Core.Path.{_≡_, sym, _∙_, ap, ap₂, subst}
 use mathlib.Core.Logic.{_≢_, _⊎_, inl, inr}
 use mathlib.Core.List.{List, [], _∷_, List·Mem, List·Nodup, Pairwise·cons, mem-cons-self, mem-cons-of-mem}
-use Prim.Native.Nat.{ℕ, zero, suc, _≤_}
+use Prim.Native.Nat.{ℕ, suc, _≤_}
 use native.Mathlib.Omega.{arith}
 use lib.ListN.{length}
-use Rattle.algebra.proofs.Ring.{CRing, Domain, Field, pow, by1, by2, one-mul, nil-mul, mul-nil, sub-nil}
+use Rattle.algebra.proofs.Ring.{CRing, Domain, Field, by1, by2, nil-mul, mul-nil, sub-nil}
 use Rattle.algebra.proofs.Reflect.{ring!, reify}
 use Rattle.algebra.proofs.Poly.{Poly, Poly-ring, mk-poly, addP, mulP, negP, nilP, conP, add-at, neg-at}
 use Rattle.algebra.proofs.Constants.{con-nil, con-add, con-mul, con-at-suc}
 use Rattle.algebra.proofs.Monomials.{monS, mon-below, monP, X}
-use Rattle.algebra.proofs.Degree.{HasDeg, degree-of, FactorDegrees, deg-factors, deg-unique, sum-below, neg-below, con-below}
+use Rattle.algebra.proofs.Degree.{HasDeg, deg-unique, sum-below, neg-below, con-below}
+use Rattle.algebra.proofs.PolyDomain.{FactorDegrees, deg-factors}
 use Rattle.algebra.proofs.ZeroProduct.{nil-left, nil-factor}
 use Rattle.algebra.proofs.Divides.{Dvd}
 use Rattle.algebra.proofs.Monic.{MonicP, monic-deg}
@@ -92,7 +93,7 @@ module _ {A : Type 0} (D : Domain A) where
   deg-linear r = monic-deg D (linear R r) (monic-linear R r)
 
   -- a root takes one off the degree
-  linear-quotient : (p q : Poly R) (r : A) (n : ℕ) → HasDeg R p n → p ≡ mulP R q (linear R r) → (m : ℕ) × (HasDeg R q m × (n ≡ suc m))
+  pub linear-quotient : (p q : Poly R) (r : A) (n : ℕ) → HasDeg R p n → p ≡ mulP R q (linear R r) → (m : ℕ) × (HasDeg R q m × (n ≡ suc m))
   linear-quotient p q r n d e =
       let f : FactorDegrees D q (linear R r) n = deg-factors D q (linear R r) n (subst (λ z. HasDeg R z n) e d) in
       let one : f .right ≡ 1 = deg-unique R (linear R r) (f .right) 1 (f .deg-right) (deg-linear r) in
@@ -111,44 +112,6 @@ module _ {A : Type 0} (D : Domain A) where
       other : (x : A) → r ≢ x → (q : Poly R) → p ≡ mulP R q (linear R r) → ev R p x ≡ 𝟘 → ev R q x ≡ 𝟘
       other x ne q e z = nil-left D (ev R q x) (x + - r) (λ w. ne (sym (sub-nil R x r w)))
           (ap (λ y. ev R q x * y) (sym (ev-linear R r x)) ∙ sym (ap (λ y. ev R y x) e ∙ ev-mul R q (linear R r) x) ∙ z)
-
-  -- p = (x − r)ᵐ h, and r is no root of h
-  pub record Multiplicity (p : Poly R) (r : A) : Type 0 where
-    pub times : ℕ
-    pub rest : Poly R
-    pub is : p ≡ mulP R (pow (Poly-ring R) (linear R r) times) rest
-    pub no-root : ev R rest r ≢ 𝟘
-
-  no-times : (p : Poly R) (r : A) → ev R p r ≢ 𝟘 → Multiplicity p r
-  unfolding pow
-  no-times p r h = record { times = 0; rest = p; is = sym (one-mul (Poly-ring R) p); no-root = h }
-
-  one-more : (p q : Poly R) (r : A) → p ≡ mulP R q (linear R r) → Multiplicity q r → Multiplicity p r
-  unfolding pow
-  one-more p q r e z = record {
-    times = suc (z .times);
-    rest = z .rest;
-    is = e ∙ by1 (Poly-ring R) (linear R r) (z .is)
-        (ring! (Poly-ring R) (q ∷ linear R r ∷ z .rest ∷ pow (Poly-ring R) (linear R r) (z .times) ∷ []) (search reify depth 30 fits 20000) tt);
-    no-root = z .no-root;
-  }
-
-  try-root : (p : Poly R) (r : A) (n : ℕ) → HasDeg R p n → ((m : ℕ) (q : Poly R) → n ≡ suc m → HasDeg R q m → Multiplicity q r) → Multiplicity p r
-  try-root p r n d rec = go (D .discrete (ev R p r) 𝟘)
-    where
-      go : Dec (ev R p r ≡ 𝟘) → Multiplicity p r
-      go (no f) = no-times p r f
-      go (yes e) =
-          let (q, f) = root-divides p r e in
-          let (m, g) = linear-quotient p q r n d f in
-          one-more p q r f (rec m q (g .1) (g .0))
-
-  multiplicity-from : (n : ℕ) (p : Poly R) → HasDeg R p n → (r : A) → Multiplicity p r
-  multiplicity-from zero p d r = try-root p r 0 d (λ m q e h. absurd (omega arith))
-  multiplicity-from (suc n) p d r = try-root p r (suc n) d (λ m q e h. multiplicity-from n q (subst (HasDeg R q) (omega arith) h) r)
-
-  pub multiplicity : (p : Poly R) → p ≢ nilP R → (r : A) → Multiplicity p r
-  multiplicity p h r = let (n, d) = degree-of D p h in multiplicity-from n p d r
 
 module _ {A : Type 0} (K : Field A) where
   abbrev F : CRing A

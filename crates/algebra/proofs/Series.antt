@@ -4,6 +4,7 @@ use mathlib.Core.HLevel.{Π-set}
 use mathlib.Core.List.{[], _∷_}
 use Prim.Native.Nat.{ℕ, zero, suc, _≤_, _+_ as _+ⁿ_}
 use native.Mathlib.Omega.{arith}
+use native.Mathlib.Decide.{ℕ-discrete}
 use Rattle.algebra.proofs.Ring.{CRing, by1, by2, nil-mul, distr}
 use Rattle.algebra.proofs.Reflect.{ring!, reify}
 
@@ -120,3 +121,11 @@ module _ {A : Type 0} (R : CRing A) where
   unfolding conS
   below-con a zero h = absurd (omega arith)
   below-con a (suc k) h = refl
+
+  -- a bound goes down where the last coefficient is 0
+  pub below-down : (n : ℕ) (s : Ser) → Below (suc n) s → s n ≡ 𝟘 → Below n s
+  below-down n s h e k g = pick (ℕ-discrete k n)
+    where
+      pick : Dec (k ≡ n) → s k ≡ 𝟘
+      pick (yes p) = ap s p ∙ e
+      pick (no f) = h k (omega arith)

@@ -10,10 +10,12 @@ use Rattle.algebra.proofs.Divides.{Dvd, Coprime, dvd-trans, coprime-swa
 use Rattle.algebra.proofs.Poly.{Poly, addP, mulP, negP, nilP, conP, Poly-ring}
 use Rattle.algebra.proofs.RingMap.{map-nat}
 use Rattle.algebra.proofs.Monomials.{X}
-use Rattle.algebra.proofs.Degree.{deg-not-nil, P-cancel, Poly-domain}
+use Rattle.algebra.proofs.Degree.{deg-not-nil}
+use Rattle.algebra.proofs.PolyDomain.{P-cancel, Poly-domain}
 use Rattle.algebra.proofs.Gcd.{con-unit}
 use Rattle.algebra.proofs.Evaluation.{ev, ev-mul, ev-map}
-use Rattle.algebra.proofs.Roots.{linear, deg-linear, divides-root, split-value, Multiplicity, multiplicity}
+use Rattle.algebra.proofs.Roots.{linear, deg-linear, divides-root, split-value}
+use Rattle.algebra.proofs.Multiplicity.{Multiplicity, multiplicity}
 use Rattle.algebra.proofs.Derivative.{derP, der-add, der-neg, der-con, der-X, der-mul, der-pow}
 
 module _ {A : Type 0} (R : CRing A) where

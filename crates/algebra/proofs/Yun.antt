@@ -9,7 +9,8 @@ use Rattle.algebra.proofs.ZeroProduct.{nil-right}
 use Rattle.algebra.proofs.Divides.{Coprime, coprime-dvd}
 use Rattle.algebra.proofs.Series.{Below}
 use Rattle.algebra.proofs.Poly.{Poly, addP, mulP, negP, nilP, conP, Poly-ring}
-use Rattle.algebra.proofs.Degree.{con-below, Poly-domain, short-multiple, P-cancel}
+use Rattle.algebra.proofs.Degree.{con-below}
+use Rattle.algebra.proofs.PolyDomain.{Poly-domain, short-multiple, P-cancel}
 use Rattle.algebra.proofs.Monic.{MonicP, monic-deg, monic-constant}
 use Rattle.algebra.proofs.Derivative.{derP, der-mul, der-below, der-nil-constant}
 
