@@ -12,6 +12,7 @@ pub mod RingMap
 pub mod Divides
 pub mod ZeroProduct
 pub mod Embedding
+pub mod Characteristic
 pub mod Series
 pub mod Poly
 pub mod Constants

@@ -1,5 +1,6 @@
 -- The monomials c xʲ and the variable X, and what multiplying by them does to the coefficients.
 use mathlib.Core.Path.{_≡_, refl, sym, _∙_, ap, subst}
+use mathlib.Core.Logic.{_≢_}
 use mathlib.Core.List.{[], _∷_}
 use Prim.Native.Nat.{ℕ, zero, suc, _<_, _+_ as _+ⁿ_}
 use native.Mathlib.Omega.{arith}
@@ -48,6 +49,26 @@ module _ {A : Type 0} (R : CRing A) where
 
   unfoldable pub X : Poly R
   X = monP 𝟙 1
+
+  monS-at : (c : A) (j : ℕ) → monS c j j ≡ c
+  unfolding monS
+  monS-at c zero = refl
+  monS-at c (suc j) = monS-at c j
+
+  monS-other : (c : A) (j k : ℕ) → k ≢ j → monS c j k ≡ 𝟘
+  unfolding monS
+  monS-other c zero zero h = absurd (h refl)
+  monS-other c zero (suc k) h = refl
+  monS-other c (suc j) zero h = refl
+  monS-other c (suc j) (suc k) h = monS-other c j k (λ e. h (ap suc e))
+
+  pub mon-at : (c : A) (j : ℕ) → monP c j .0 j ≡ c
+  unfolding monP mk-poly
+  mon-at c j = monS-at c j
+
+  pub mon-at-other : (c : A) (j k : ℕ) → k ≢ j → monP c j .0 k ≡ 𝟘
+  unfolding monP mk-poly
+  mon-at-other c j k h = monS-other c j k h
 
   pub mon-mul-at : (c : A) (j : ℕ) (p : Poly R) (k : ℕ) → mulP R (monP c j) p .0 (j +ⁿ k) ≡ c * p .0 k
   unfolding mulP monP mk-poly
