@@ -78,14 +78,9 @@ module _ {A : Type 0} (D : Domain A) where
       go (sized m e) (sized n e′) =
           record { left = m; right = n; deg-left = e; deg-right = e′; adds = deg-adds (mulP R p q) p q k m n refl d e e′ }
 
-  -- the factors of a constant are constants
-  pub deg-zero-left : (p q : Poly R) → HasDeg R (mulP R p q) 0 → HasDeg R p 0
-  deg-zero-left p q d =
-      let f = deg-factors p q 0 d in
-      subst (HasDeg R p) (let z = f .adds in omega arith) (f .deg-left)
-
-  pub deg-zero-right : (p q : Poly R) → HasDeg R (mulP R p q) 0 → HasDeg R q 0
-  deg-zero-right p q d =
+  -- a factor of a constant is a constant
+  pub deg-zero-factor : (p q : Poly R) → HasDeg R (mulP R p q) 0 → HasDeg R q 0
+  deg-zero-factor p q d =
       let f = deg-factors p q 0 d in
       subst (HasDeg R q) (let z = f .adds in omega arith) (f .deg-right)
 
@@ -107,7 +102,7 @@ module _ {A : Type 0} (D : Domain A) where
 
   -- what divides a constant that is not 0 is a constant
   pub dvd-constant : (d : Poly R) (c : A) → c ≢ R .nil → Dvd (Poly-ring R) d (conP R c) → HasDeg R d 0
-  dvd-constant d c h (q, e) = deg-zero-right q d (subst (λ z. HasDeg R z 0) e (deg-con R c h))
+  dvd-constant d c h (q, e) = deg-zero-factor q d (subst (λ z. HasDeg R z 0) e (deg-con R c h))
 
   -- so nothing but constants divides two coprime polynomials
   pub coprime-constant : (a b d : Poly R) → Coprime (Poly-ring R) a b → Dvd (Poly-ring R) d a → Dvd (Poly-ring R) d b → HasDeg R d 0
@@ -119,5 +114,5 @@ module _ {A : Type 0} (D : Domain A) where
       let unit : mulP R b a ≡ conP R (R .one) =
       P-cancel (mulP R b a) (conP R (R .one)) q h
       (by2 (Poly-ring R) (negP R b) e (negP R (conP R (R .one))) f (ring! (Poly-ring R) (a ∷ b ∷ p ∷ q ∷ []) (search reify depth 30 fits 20000) tt)) in
-      let d : HasDeg R a 0 = deg-zero-right b a (subst (λ z. HasDeg R z 0) (sym unit) (deg-con R (R .one) (D .proper))) in
+      let d : HasDeg R a 0 = deg-zero-factor b a (subst (λ z. HasDeg R z 0) (sym unit) (deg-con R (R .one) (D .proper))) in
       (a .0 0, (d .leads, e ∙ ap (λ z. mulP R z q) (con-of R a (d .ends))))

@@ -15,7 +15,7 @@ use Rattle.algebra.proofs.PolyDomain.{FactorDegrees, deg-factors}
 use Rattle.algebra.proofs.Divides.{Dvd}
 use Rattle.algebra.proofs.Monic.{MonicP, monic-deg}
 use Rattle.algebra.proofs.Listed.{polyOf, toList, polyOf-toList}
-use Rattle.algebra.proofs.Evaluation.{val, ev, ev-is, ev-con, ev-X, ev-add, ev-mul, ev-neg, horner, ev-polyOf}
+use Rattle.algebra.proofs.Evaluation.{evS, ev, ev-is, ev-con, ev-X, ev-add, ev-mul, ev-neg, horner, ev-polyOf}
 
 module _ {A : Type 0} (R : CRing A) where
   open CRing R using (add as _+_, mul as _*_, neg as -_, nil as 𝟘, one as 𝟙)
@@ -118,7 +118,7 @@ module _ {A : Type 0} (K : Field A) where
 
   -- degree 1 has a root
   pub linear-root : (p : Poly F) → HasDeg F p 1 → (r : A) × (ev F p r ≡ F .nil)
-  unfolding val
+  unfolding evS
   linear-root p d =
       let r : A = F .neg (F .mul (p .0 0) (K .inv (p .0 1))) in (
         r,

@@ -1,9 +1,9 @@
 -- The identities behind the square-free factorisation: f = b g and f′ = c g at the start, and d g = b g′ through every round.
-use mathlib.Core.Path.{_≡_, sym, _∙_, ap, subst}
+use mathlib.Core.Path.{_≡_, sym, _∙_, ap, ap₂, subst}
 use mathlib.Core.Logic.{_≢_}
 use mathlib.Core.List.{[], _∷_}
 use Prim.Native.Nat.{ℕ, suc}
-use Rattle.algebra.proofs.Ring.{CRing, Domain, nat, by1, nil-mul, nil-right}
+use Rattle.algebra.proofs.Ring.{CRing, Domain, nat, pow, pow-mul, by1, nil-mul, nil-right}
 use Rattle.algebra.proofs.Reflect.{ring!, reify}
 use Rattle.algebra.proofs.Divides.{Coprime, coprime-dvd}
 use Rattle.algebra.proofs.Series.{Below}
@@ -17,6 +17,16 @@ module _ {A : Type 0} (R : CRing A) where
   pub yun-start : (f b c g : Poly R) → f ≡ mulP R b g → derP R f ≡ mulP R c g → mulP R (addP R c (negP R (derP R b))) g ≡ mulP R b (derP R g)
   yun-start f b c g e h = by1 (Poly-ring R) (conP R (R .one)) (sym h ∙ ap (derP R) e ∙ der-mul R b g)
       (ring! (Poly-ring R) (b ∷ c ∷ g ∷ derP R b ∷ derP R g ∷ []) (search reify depth 30 fits 20000) tt)
+
+  -- the product through a round: f = P bⁱ g, b = a b′ and g = next b′ give f = (P aⁱ) b′ⁱ⁺¹ next
+  pub yun-product : (i : ℕ) (f P a b b′ g next : Poly R) → f ≡ mulP R (mulP R P (pow (Poly-ring R) b i)) g → b ≡ mulP R a b′ → g ≡ mulP R next b′
+      → f ≡ mulP R (mulP R (mulP R P (pow (Poly-ring R) a i)) (pow (Poly-ring R) b′ (suc i))) next
+  unfolding pow
+  yun-product i f P a b b′ g next e h k =
+      let pa : Poly R = pow (Poly-ring R) a i in
+      let pb : Poly R = pow (Poly-ring R) b′ i in
+      e ∙ ap₂ (λ x y. mulP R (mulP R P (pow (Poly-ring R) x i)) y) h k ∙ ap (λ x. mulP R (mulP R P x) (mulP R next b′)) (pow-mul (Poly-ring R) a b′ i)
+      ∙ ring! (Poly-ring R) (P ∷ pa ∷ pb ∷ next ∷ b′ ∷ []) (search reify depth 30 fits 20000) tt
 
 module _ {A : Type 0} (D : Domain A) where
   abbrev S : CRing A
