@@ -37,3 +37,5 @@ pub mod RationalRoot
 pub mod Derivative
 pub mod SquareFree
 pub mod Yun
+pub mod Lists
+pub mod ListWords
