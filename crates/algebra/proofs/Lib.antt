@@ -39,3 +39,4 @@ pub mod SquareFree
 pub mod Yun
 pub mod Lists
 pub mod ListWords
+pub mod Theorems

@@ -2,16 +2,14 @@
 use mathlib.Core.Path.{_≡_, sym, _∙_, ap, ap₂, subst}
 use mathlib.Core.List.{List}
 use Prim.Native.Nat.{ℕ, suc}
-use native.Mathlib.Omega.{arith}
 use Rattle.algebra.specs.Rational.{Rat, Same, zeroQ, oneQ}
-use Rattle.algebra.specs.Polynomial.{coeff, Equal, sum, product, value}
+use Rattle.algebra.specs.Polynomial.{coeff, sum, product, value}
 use Rattle.algebra.specs.Textbook.{EndsBelow, IsZero, HasDegree, Lower, Monic, Divides, IsDivision, Combines, IsGcd, IsRoot}
 use Rattle.algebra.proofs.Rational.{ℚ, ℚ-ring, ℚ-domain, 0ℚ, 1ℚ, val, val-same, same-val, val-zero, val-one}
 use Rattle.algebra.proofs.Series.{Below}
 use Rattle.algebra.proofs.Poly.{Poly-ring, nilP, nil-at, nil-below}
 use Rattle.algebra.proofs.Divides.{Dvd}
 use Rattle.algebra.proofs.Degree.{HasDeg}
-use Rattle.algebra.proofs.Division.{Division}
 use Rattle.algebra.proofs.Monic.{MonicP, IsGcdP}
 use Rattle.algebra.proofs.Evaluation.{ev}
 use Rattle.algebra.proofs.Lists.{ℚP, _+P_, _*P_, poly, poly-at, equal-poly, poly-equal, poly-sum, poly-product, val-value, listOf, poly-listOf}

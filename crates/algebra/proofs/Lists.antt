@@ -5,13 +5,13 @@ use Prim.Native.Nat.{ℕ, zero, suc, _+_}
 use native.Mathlib.Omega.{arith}
 use lib.IntN.{pos}
 use lib.ListN.{getD}
-use Rattle.algebra.specs.Rational.{Rat, Same, whole, zeroQ, oneQ, addQ, mulQ, negQ}
+use Rattle.algebra.specs.Rational.{Rat, whole, zeroQ, oneQ, addQ, mulQ, negQ}
 use Rattle.algebra.specs.Polynomial.{coeff, Equal, sum, scaled, negated, product, power, weighted, derivative, value}
-use Rattle.algebra.proofs.Ring.{nat, pow, by1, by2, nil-add, mul-nil}
+use Rattle.algebra.proofs.Ring.{nat, pow, nil-add, mul-nil}
 use Rattle.algebra.proofs.Reflect.{ring!, reify}
 use Rattle.algebra.proofs.Rational.{ℚ, ℚ-ring, ℚ-domain, _+ℚ_, _*ℚ_, 0ℚ, 1ℚ, val, val-same, same-val, val-zero, val-one, val-add, val-mul, val-neg, nat-ℚ}
 use Rattle.algebra.proofs.Canon.{rep, val-rep}
-use Rattle.algebra.proofs.Poly.{Poly, addP, mulP, negP, nilP, conP, Poly-ring, poly-ext, nil-at}
+use Rattle.algebra.proofs.Poly.{Poly, addP, mulP, negP, nilP, conP, Poly-ring, poly-ext}
 use Rattle.algebra.proofs.Constants.{con-nil, con-add, con-mul, con-neg}
 use Rattle.algebra.proofs.Monomials.{X}
 use Rattle.algebra.proofs.Listed.{polyOf, polyOf-cons, polyOf-at, toList, polyOf-toList}

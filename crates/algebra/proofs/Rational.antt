@@ -3,7 +3,7 @@ use mathlib.Core.Path.{_≡_, refl, sym, _∙_, ap}
 use mathlib.Core.Logic.{_≢_}
 use Prim.Native.Nat.{ℕ, zero, suc}
 use native.Mathlib.Omega.{arith}
-use lib.IntN.{ℤ, ℤ-discrete, pos, negsuc, negℤ, _+ℤ_, _*ℤ_}
+use lib.IntN.{ℤ, ℤ-discrete, pos, negsuc, negℤ, _*ℤ_}
 use Rattle.algebra.specs.Rational.{Rat, Same, whole, zeroQ, oneQ, addQ, mulQ, negQ, subQ, over}
 use Rattle.algebra.proofs.Ring.{CRing, Domain, Field, Field-domain, nat, neg-mul, mul-neg}
 use Rattle.algebra.proofs.RingMap.{map-nat}
