@@ -9,9 +9,9 @@ use native.Mathlib.Bridge.{le-prop}
 use native.Mathlib.Decide.{decLe}
 use Rattle.algebra.proofs.Ring.{CRing, Domain, by1, by2}
 use Rattle.algebra.proofs.Reflect.{ring!, reify}
-use Rattle.algebra.proofs.Series.{Ser, tl, mulS, nilS, nil-mulS, Below, below-neg, below-down}
+use Rattle.algebra.proofs.Series.{Ser, tl, mulS, nilS, nil-mulS, Below, below-add, below-mul, below-neg, below-con, below-down}
 use Rattle.algebra.proofs.Poly.{Poly, addP, mulP, negP, nilP, conP, by-bound, nil-at, mul-at, nil-below}
-use Rattle.algebra.proofs.Constants.{con-at-zero, con-at-suc}
+use Rattle.algebra.proofs.Constants.{con-at-zero}
 
 module _ {A : Type 0} (R : CRing A) where
   open CRing R using (add as _+_, mul as _*_, neg as -_, nil as 𝟘, one as 𝟙)
@@ -33,36 +33,23 @@ module _ {A : Type 0} (R : CRing A) where
       by2 R (s zero) (ht (suc i) (omega arith)) 𝟙 (lead-mul m n i (tl R s) t (λ k h. hs (suc k) (omega arith)) ht (omega arith))
       (ring! R (s zero ∷ t (suc i) ∷ s (suc m) ∷ t n ∷ mulS R (tl R s) t i ∷ []) (search reify depth 30 fits 20000) tt)
 
-  -- and nothing follows it
-  mul-ends : (m n : ℕ) (s t : Ser R) → Below R (suc m) s → Below R (suc n) t → Below R (suc (m +ⁿ n)) (mulS R s t)
-  unfolding mulS
-  mul-ends zero n s t hs ht zero h = absurd (omega arith)
-  mul-ends zero n s t hs ht (suc k) h =
-      by2 R (s zero) (ht (suc k) (omega arith)) 𝟙 (ap (λ z. mulS R z t k) (fun-ext {f = tl R s} {g = nilS R} (λ i. hs (suc i) (omega arith))) ∙ nil-mulS R t k)
-      (ring! R (s zero ∷ t (suc k) ∷ mulS R (tl R s) t k ∷ []) (search reify depth 30 fits 20000) tt)
-  mul-ends (suc m) n s t hs ht zero h = absurd (omega arith)
-  mul-ends (suc m) n s t hs ht (suc k) h =
-      by2 R (s zero) (ht (suc k) (omega arith)) 𝟙 (mul-ends m n (tl R s) t (λ i g. hs (suc i) (omega arith)) ht k (omega arith))
-      (ring! R (s zero ∷ t (suc k) ∷ mulS R (tl R s) t k ∷ []) (search reify depth 30 fits 20000) tt)
-
   pub mul-lead : (p q : Poly R) (m n : ℕ) → Below R (suc m) (p .0) → Below R (suc n) (q .0) → mulP R p q .0 (m +ⁿ n) ≡ p .0 m * q .0 n
   mul-lead p q m n hp hq = mul-at R p q (m +ⁿ n) ∙ lead-mul m n (m +ⁿ n) (p .0) (q .0) hp hq refl
 
   pub mul-below : (p q : Poly R) (m n : ℕ) → Below R (suc m) (p .0) → Below R (suc n) (q .0) → Below R (suc (m +ⁿ n)) (mulP R p q .0)
-  mul-below p q m n hp hq k h = mul-at R p q k ∙ mul-ends m n (p .0) (q .0) hp hq k h
+  mul-below p q m n hp hq k h = mul-at R p q k ∙ below-mul R (suc m) (suc n) (p .0) (q .0) hp hq k (omega arith)
 
-  -- a sum is no longer than the longer part
   pub sum-below : (p q : Poly R) (n : ℕ) → Below R n (p .0) → Below R n (q .0) → Below R n (addP R p q .0)
   unfolding addP
-  sum-below p q n hp hq k h = by2 R 𝟙 (hp k h) 𝟙 (hq k h) (ring! R (p .0 k ∷ q .0 k ∷ []) (search reify depth 30 fits 20000) tt)
+  sum-below p q n hp hq = below-add R n (p .0) (q .0) hp hq
 
   pub neg-below : (p : Poly R) (n : ℕ) → Below R n (p .0) → Below R n (negP R p .0)
   unfolding negP
   neg-below p n h = below-neg R n (p .0) h
 
   pub con-below : (a : A) → Below R 1 (conP R a .0)
-  con-below a zero h = absurd (omega arith)
-  con-below a (suc k) h = con-at-suc R a k
+  unfolding conP
+  con-below a = below-con R a
 
   -- degree n: xⁿ has a coefficient that is not 0, and no higher power has
   pub record HasDeg (p : Poly R) (n : ℕ) : Type 0 where

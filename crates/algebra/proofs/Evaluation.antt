@@ -7,11 +7,11 @@ use native.Mathlib.Omega.{arith}
 use Rattle.algebra.proofs.Ring.{CRing, pow, by1, by2, nil-mul, mul-nil}
 use Rattle.algebra.proofs.Reflect.{ring!, reify}
 use Rattle.algebra.proofs.RingMap.{RingMap, map-neg, map-pow}
-use Rattle.algebra.proofs.Series.{Ser, tl, addS, mulS, nilS, Below, nil-mulS, below-add, below-mul}
+use Rattle.algebra.proofs.Series.{Ser, tl, addS, mulS, nilS, Below, nil-mulS, below-mul}
 use Rattle.algebra.proofs.Poly.{Poly, addP, mulP, negP, nilP, conP, Poly-ring, mk-poly, by-bound, nil-at}
 use Rattle.algebra.proofs.Constants.{con-at-zero}
 use Rattle.algebra.proofs.Monomials.{monS, mon-below, monP, X}
-use Rattle.algebra.proofs.Degree.{con-below}
+use Rattle.algebra.proofs.Degree.{con-below, sum-below}
 use Rattle.algebra.proofs.Listed.{polyOf}
 
 module _ {A : Type 0} (R : CRing A) where
@@ -99,14 +99,14 @@ module _ {A : Type 0} (R : CRing A) where
   pub ev-add : (p q : Poly R) (r : A) → ev (addP R p q) r ≡ ev p r + ev q r
   unfolding addP
   ev-add p q r = by-bounds p q _ _ (λ m n hm hn.
-      ev-is (addP R p q) r (m +ⁿ n) (below-add R m n (p .0) (q .0) hm hn)
+      ev-is (addP R p q) r (m +ⁿ n) (sum-below R p q (m +ⁿ n) (λ k h. hm k (omega arith)) (λ k h. hn k (omega arith)))
       ∙ evS-add (m +ⁿ n) (p .0) (q .0) r
       ∙ sym (ap₂ _+_ (ev-is p r (m +ⁿ n) (λ k h. hm k (omega arith))) (ev-is q r (m +ⁿ n) (λ k h. hn k (omega arith)))))
 
   pub ev-mul : (p q : Poly R) (r : A) → ev (mulP R p q) r ≡ ev p r * ev q r
   unfolding mulP
   ev-mul p q r = by-bounds p q _ _ (λ m n hm hn.
-      ev-is (mulP R p q) r (m +ⁿ n) (below-mul R m n (p .0) (q .0) hm hn)
+      ev-is (mulP R p q) r (m +ⁿ n) (λ k h. below-mul R m n (p .0) (q .0) hm hn k (omega arith))
       ∙ evS-mul m n (m +ⁿ n) (p .0) (q .0) r (omega arith) hm hn
       ∙ sym (ap₂ _*_ (ev-is p r m hm) (ev-is q r n hn)))
 

@@ -9,7 +9,8 @@ use Rattle.algebra.proofs.Rational.{ℚ, ℚ-ring, ℚ-domain, 0ℚ, 1�
 use Rattle.algebra.proofs.Series.{Below}
 use Rattle.algebra.proofs.Poly.{Poly-ring, nilP, nil-at, nil-below}
 use Rattle.algebra.proofs.Divides.{Dvd}
-use Rattle.algebra.proofs.Degree.{HasDeg}
+use Rattle.algebra.proofs.Degree.{HasDeg, deg-unique}
+use Rattle.algebra.proofs.Division.{Division}
 use Rattle.algebra.proofs.Monic.{MonicP, IsGcdP}
 use Rattle.algebra.proofs.Evaluation.{ev}
 use Rattle.algebra.proofs.Lists.{ℚP, _+P_, _*P_, poly, poly-at, equal-poly, poly-equal, poly-sum, poly-product, val-value, listOf, poly-listOf}
@@ -69,6 +70,17 @@ division-to a b q r h = equal-poly a (sum (product q b) r) (h .is) ∙ division-
 
 pub division-from : (a b q r : List Rat) → poly a ≡ poly q *P poly b +P poly r → Lower r b → IsDivision a b q r
 division-from a b q r e l = record { is = poly-equal a (sum (product q b) r) (e ∙ sym (division-poly b q r)); lower = l }
+
+-- over the polynomials of a and b, whatever degree of b is given
+unfoldable pub as-division : (a b q r : List Rat) → IsDivision a b q r → (n : ℕ) → HasDeg ℚ-ring (poly b) n → Division ℚ-ring (poly b) n (poly a)
+as-division a b q r h n d =
+    let (e, s) = lower-to r b (h .lower) in
+    record {
+      quot = poly q;
+      rem = poly r;
+      is = division-to a b q r h ∙ ap (λ z. z +P poly r) (Poly-ring ℚ-ring .mul-comm (poly q) (poly b));
+      small = subst (λ m. Below ℚ-ring m (poly r .0)) (deg-unique ℚ-ring (poly b) (h .lower .degree) n e d) s;
+    }
 
 -- s a + t b
 combination-poly : (a b s t : List Rat) → poly (sum (product s a) (product t b)) ≡ poly s *P poly a +P poly t *P poly b

@@ -7,7 +7,7 @@ use lib.IntN.{pos}
 use lib.ListN.{getD}
 use Rattle.algebra.specs.Rational.{Rat, whole, zeroQ, oneQ, addQ, mulQ, negQ}
 use Rattle.algebra.specs.Polynomial.{coeff, Equal, sum, scaled, negated, product, power, weighted, derivative, value}
-use Rattle.algebra.proofs.Ring.{nat, pow, nil-add, mul-nil}
+use Rattle.algebra.proofs.Ring.{nat, pow, nil-add, mul-nil, nil-mul, neg-nil}
 use Rattle.algebra.proofs.Reflect.{ring!, reify}
 use Rattle.algebra.proofs.Rational.{ℚ, ℚ-ring, ℚ-domain, _+ℚ_, _*ℚ_, 0ℚ, 1ℚ, val, val-same, same-val, val-zero, val-one, val-add, val-mul, val-neg, nat-ℚ}
 use Rattle.algebra.proofs.Canon.{rep, val-rep}
@@ -16,6 +16,7 @@ use Rattle.algebra.proofs.Constants.{con-nil, con-add, con-mul, con-neg
 use Rattle.algebra.proofs.Monomials.{X}
 use Rattle.algebra.proofs.Listed.{polyOf, polyOf-cons, polyOf-at, toList, polyOf-toList}
 use Rattle.algebra.proofs.Evaluation.{ev, horner, ev-polyOf}
+use Rattle.algebra.proofs.Roots.{linear}
 use Rattle.algebra.proofs.Derivative.{derP, der-at}
 
 abbrev pub ℚP : Type 0
@@ -62,14 +63,33 @@ equal-poly p q h = poly-ext ℚ-ring (poly p) (poly q) (λ i. poly-at p i ∙ va
 pub poly-equal : (p q : List Rat) → poly p ≡ poly q → Equal p q
 poly-equal p q e i = same-val (coeff p i) (coeff q i) (sym (poly-at p i) ∙ ap (λ z. z .0 i) e ∙ poly-at q i)
 
+pub equal-refl : (p : List Rat) → Equal p p
+equal-refl p = poly-equal p p refl
+
+pub equal-sym : (p q : List Rat) → Equal p q → Equal q p
+equal-sym p q h = poly-equal q p (sym (equal-poly p q h))
+
+pub equal-trans : (p q r : List Rat) → Equal p q → Equal q r → Equal p r
+equal-trans p q r h k = poly-equal p r (equal-poly p q h ∙ equal-poly q r k)
+
+-- a list by what its first coefficient and the rest are
+cons-is : (a : Rat) (p : List Rat) {c z : ℚP} → conP ℚ-ring (val a) ≡ c → poly p ≡ z → poly (a ∷ p) ≡ c +P X ℚ-ring *P z
+cons-is a p e f = poly-cons a p ∙ ap₂ (λ c z. c +P X ℚ-ring *P z) e f
+
+pub poly-constant : (c : Rat) → poly (c ∷ []) ≡ conP ℚ-ring (val c)
+poly-constant c = cons-is c [] refl poly-empty ∙ ring! (Poly-ring ℚ-ring) (conP ℚ-ring (val c) ∷ X ℚ-ring ∷ []) (search reify depth 30 fits 20000) tt
+
+-- x p
+pub poly-shifted : (p : List Rat) → poly (zeroQ ∷ p) ≡ X ℚ-ring *P poly p
+poly-shifted p = cons-is zeroQ p (ap (conP ℚ-ring) val-zero ∙ con-nil ℚ-ring) refl ∙ nil-add (Poly-ring ℚ-ring) (X ℚ-ring *P poly p)
+
 -- the operations
 pub poly-sum : (p q : List Rat) → poly (sum p q) ≡ poly p +P poly q
 unfolding sum
 poly-sum [] q = sym (ap (λ z. z +P poly q) poly-empty ∙ nil-add (Poly-ring ℚ-ring) (poly q))
 poly-sum (a ∷ p) [] = sym (ap (λ z. poly (a ∷ p) +P z) poly-empty ∙ Poly-ring ℚ-ring .add-nil (poly (a ∷ p)))
 poly-sum (a ∷ p) (b ∷ q) =
-    poly-cons (addQ a b) (sum p q)
-    ∙ ap₂ (λ c z. c +P X ℚ-ring *P z) (ap (conP ℚ-ring) (val-add a b) ∙ con-add ℚ-ring (val a) (val b)) (poly-sum p q)
+    cons-is (addQ a b) (sum p q) (ap (conP ℚ-ring) (val-add a b) ∙ con-add ℚ-ring (val a) (val b)) (poly-sum p q)
     ∙ ring! (Poly-ring ℚ-ring) (conP ℚ-ring (val a) ∷ conP ℚ-ring (val b) ∷ X ℚ-ring ∷ poly p ∷ poly q ∷ []) (search reify depth 30 fits 20000) tt
     ∙ sym (ap₂ _+P_ (poly-cons a p) (poly-cons b q))
 
@@ -77,37 +97,26 @@ pub poly-scaled : (c : Rat) (p : List Rat) → poly (scaled c p) ≡ conP ℚ-ri
 unfolding scaled
 poly-scaled c [] = poly-empty ∙ sym (ap (λ z. conP ℚ-ring (val c) *P z) poly-empty ∙ mul-nil (Poly-ring ℚ-ring) (conP ℚ-ring (val c)))
 poly-scaled c (a ∷ p) =
-    poly-cons (mulQ c a) (scaled c p)
-    ∙ ap₂ (λ d z. d +P X ℚ-ring *P z) (ap (conP ℚ-ring) (val-mul c a) ∙ con-mul ℚ-ring (val c) (val a)) (poly-scaled c p)
+    cons-is (mulQ c a) (scaled c p) (ap (conP ℚ-ring) (val-mul c a) ∙ con-mul ℚ-ring (val c) (val a)) (poly-scaled c p)
     ∙ ring! (Poly-ring ℚ-ring) (conP ℚ-ring (val a) ∷ conP ℚ-ring (val c) ∷ X ℚ-ring ∷ poly p ∷ []) (search reify depth 30 fits 20000) tt
     ∙ sym (ap (λ z. conP ℚ-ring (val c) *P z) (poly-cons a p))
 
 pub poly-negated : (p : List Rat) → poly (negated p) ≡ negP ℚ-ring (poly p)
 unfolding negated
-poly-negated [] = poly-empty ∙ ring! (Poly-ring ℚ-ring) [] (search reify depth 30 fits 20000) tt ∙ sym (ap (negP ℚ-ring) poly-empty)
+poly-negated [] = poly-empty ∙ sym (ap (negP ℚ-ring) poly-empty ∙ neg-nil (Poly-ring ℚ-ring))
 poly-negated (a ∷ p) =
-    poly-cons (negQ a) (negated p)
-    ∙ ap₂ (λ d z. d +P X ℚ-ring *P z) (ap (conP ℚ-ring) (val-neg a) ∙ con-neg ℚ-ring (val a)) (poly-negated p)
+    cons-is (negQ a) (negated p) (ap (conP ℚ-ring) (val-neg a) ∙ con-neg ℚ-ring (val a)) (poly-negated p)
     ∙ ring! (Poly-ring ℚ-ring) (conP ℚ-ring (val a) ∷ X ℚ-ring ∷ poly p ∷ []) (search reify depth 30 fits 20000) tt
     ∙ sym (ap (negP ℚ-ring) (poly-cons a p))
 
--- x p
-pub poly-shifted : (p : List Rat) → poly (zeroQ ∷ p) ≡ X ℚ-ring *P poly p
-poly-shifted p = poly-cons zeroQ p ∙ ap (λ c. c +P X ℚ-ring *P poly p) (ap (conP ℚ-ring) val-zero ∙ con-nil ℚ-ring) ∙ nil-add (Poly-ring ℚ-ring) (X ℚ-ring *P poly p)
-
 pub poly-product : (p q : List Rat) → poly (product p q) ≡ poly p *P poly q
 unfolding product
-poly-product [] q = poly-empty ∙ ring! (Poly-ring ℚ-ring) (poly q ∷ []) (search reify depth 30 fits 20000) tt ∙ sym (ap (λ z. z *P poly q) poly-empty)
+poly-product [] q = poly-empty ∙ sym (ap (λ z. z *P poly q) poly-empty ∙ nil-mul (Poly-ring ℚ-ring) (poly q))
 poly-product (a ∷ p) q =
     poly-sum (scaled a q) (zeroQ ∷ product p q)
     ∙ ap₂ _+P_ (poly-scaled a q) (poly-shifted (product p q) ∙ ap (λ z. X ℚ-ring *P z) (poly-product p q))
     ∙ ring! (Poly-ring ℚ-ring) (conP ℚ-ring (val a) ∷ X ℚ-ring ∷ poly p ∷ poly q ∷ []) (search reify depth 30 fits 20000) tt
     ∙ sym (ap (λ z. z *P poly q) (poly-cons a p))
-
-pub poly-constant : (c : Rat) → poly (c ∷ []) ≡ conP ℚ-ring (val c)
-poly-constant c =
-    poly-cons c [] ∙ ap (λ z. conP ℚ-ring (val c) +P X ℚ-ring *P z) poly-empty
-    ∙ ring! (Poly-ring ℚ-ring) (conP ℚ-ring (val c) ∷ X ℚ-ring ∷ []) (search reify depth 30 fits 20000) tt
 
 pub poly-one : poly (oneQ ∷ []) ≡ conP ℚ-ring 1ℚ
 poly-one = poly-constant oneQ ∙ ap (conP ℚ-ring) val-one
@@ -141,6 +150,16 @@ val-horner (a ∷ p) x = val-add a (mulQ x (value p x)) ∙ ap (λ z. val a +ℚ
 pub val-value : (p : List Rat) (x : Rat) → val (value p x) ≡ ev ℚ-ring (poly p) (val x)
 unfolding poly
 val-value p x = val-horner p x ∙ sym (ev-polyOf ℚ-ring (map val p) (val x))
+
+-- x − r
+abbrev pub xMinus : Rat → List Rat
+xMinus r = negQ r ∷ oneQ ∷ []
+
+pub poly-xMinus : (r : Rat) → poly (xMinus r) ≡ linear ℚ-ring (val r)
+unfolding linear
+poly-xMinus r =
+    cons-is (negQ r) (oneQ ∷ []) (ap (conP ℚ-ring) (val-neg r) ∙ con-neg ℚ-ring (val r)) poly-one
+    ∙ ring! (Poly-ring ℚ-ring) (X ℚ-ring ∷ conP ℚ-ring (val r) ∷ []) (search reify depth 30 fits 20000) tt
 
 -- every polynomial is one of a list
 map-val-rep : (l : List ℚ) → map val (map rep l) ≡ l

@@ -84,8 +84,8 @@ module _ {A : Type 0} (D : Domain A) where
     pub divides-b : Dvd (Poly-ring R) g b
     pub greatest : (d : Poly R) → Dvd (Poly-ring R) d a → Dvd (Poly-ring R) d b → Dvd (Poly-ring R) d g
 
-  pub gcd-unique : (a b g h : Poly R) → IsGcdP a b g → IsGcdP a b h → g ≡ h
-  gcd-unique a b g h x y = monic-same g h (x .monic) (y .monic) (y .greatest g (x .divides-a) (x .divides-b)) (x .greatest h (y .divides-a) (y .divides-b))
+  pub gcdP-unique : (a b g h : Poly R) → IsGcdP a b g → IsGcdP a b h → g ≡ h
+  gcdP-unique a b g h x y = monic-same g h (x .monic) (y .monic) (y .greatest g (x .divides-a) (x .divides-b)) (x .greatest h (y .divides-a) (y .divides-b))
 
   -- a combination that is monic and divides both is the greatest common divisor
   pub bez-is-gcd : (a b : Poly R) (z : Bezout (Poly-ring R) a b) → MonicP R (z .g) → IsGcdP a b (z .g)

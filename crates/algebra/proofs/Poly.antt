@@ -20,11 +20,11 @@ module _ {A : Type 0} (R : CRing A) where
 
   pub poly-add : (p q : Poly) → IsPoly (addS R (p .0) (q .0))
   unfolding IsPoly
-  poly-add p q = ∥∥₁-map₂ (p .1) (q .1) (λ (m, hm) (n, hn). (m +ⁿ n, below-add R m n (p .0) (q .0) hm hn))
+  poly-add p q = ∥∥₁-map₂ (p .1) (q .1) (λ (m, hm) (n, hn). (m +ⁿ n, below-add R (m +ⁿ n) (p .0) (q .0) (λ k h. hm k (omega arith)) (λ k h. hn k (omega arith))))
 
   pub poly-mul : (p q : Poly) → IsPoly (mulS R (p .0) (q .0))
   unfolding IsPoly
-  poly-mul p q = ∥∥₁-map₂ (p .1) (q .1) (λ (m, hm) (n, hn). (m +ⁿ n, below-mul R m n (p .0) (q .0) hm hn))
+  poly-mul p q = ∥∥₁-map₂ (p .1) (q .1) (λ (m, hm) (n, hn). (m +ⁿ n, λ k h. below-mul R m n (p .0) (q .0) hm hn k (omega arith)))
 
   pub poly-neg : (p : Poly) → IsPoly (negS R (p .0))
   unfolding IsPoly

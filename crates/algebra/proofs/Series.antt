@@ -5,7 +5,7 @@ use mathlib.Core.List.{[], _∷_}
 use Prim.Native.Nat.{ℕ, zero, suc, _≤_, _+_ as _+ⁿ_}
 use native.Mathlib.Omega.{arith}
 use native.Mathlib.Decide.{ℕ-discrete}
-use Rattle.algebra.proofs.Ring.{CRing, by1, by2, nil-mul, distr}
+use Rattle.algebra.proofs.Ring.{CRing, by1, by2, nil-mul, mul-nil, distr}
 use Rattle.algebra.proofs.Reflect.{ring!, reify}
 
 module _ {A : Type 0} (R : CRing A) where
@@ -104,15 +104,16 @@ module _ {A : Type 0} (R : CRing A) where
   abbrev pub Below : ℕ → Ser → Type 0
   Below n s = (k : ℕ) → n ≤ k → s k ≡ 𝟘
 
-  pub below-mul : (m n : ℕ) (s t : Ser) → Below m s → Below n t → Below (m +ⁿ n) (mulS s t)
+  -- a sum is no longer than the longer part, and a product of lengths m and n has length m + n − 1
+  pub below-add : (n : ℕ) (s t : Ser) → Below n s → Below n t → Below n (addS s t)
+  below-add n s t hs ht k h = by2 R 𝟙 (hs k h) 𝟙 (ht k h) (ring! R (s k ∷ t k ∷ []) (search reify depth 30 fits 20000) tt)
+
+  pub below-mul : (m n : ℕ) (s t : Ser) → Below m s → Below n t → (k : ℕ) → m +ⁿ n ≤ suc k → mulS s t k ≡ 𝟘
   unfolding mulS
   below-mul zero n s t hs ht k h = ap (λ z. mulS z t k) (fun-ext {f = s} {g = nilS} (λ j. hs j (omega arith))) ∙ nil-mulS t k
-  below-mul (suc m) n s t hs ht zero h = absurd (omega arith)
+  below-mul (suc m) n s t hs ht zero h = ap (λ z. s zero * z) (ht zero (omega arith)) ∙ mul-nil R (s zero)
   below-mul (suc m) n s t hs ht (suc k) h = by2 R (s zero) (ht (suc k) (omega arith)) 𝟙 (below-mul m n (tl s) t (λ j g. hs (suc j) (omega arith)) ht k (omega arith))
       (ring! R (s zero ∷ t (suc k) ∷ mulS (tl s) t k ∷ []) (search reify depth 30 fits 20000) tt)
-
-  pub below-add : (m n : ℕ) (s t : Ser) → Below m s → Below n t → Below (m +ⁿ n) (addS s t)
-  below-add m n s t hs ht k h = by2 R 𝟙 (hs k (omega arith)) 𝟙 (ht k (omega arith)) (ring! R (s k ∷ t k ∷ []) (search reify depth 30 fits 20000) tt)
 
   pub below-neg : (m : ℕ) (s : Ser) → Below m s → Below m (negS s)
   below-neg m s hs k h = by1 R (- 𝟙) (hs k h) (ring! R (s k ∷ []) (search reify depth 30 fits 20000) tt)

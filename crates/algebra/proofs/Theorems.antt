@@ -1,36 +1,32 @@
 -- What a textbook says of polynomials over the rationals, in the words of specs/: for lists of pairs of whole numbers, equal by cross products.
 use mathlib.Core.Path.{_≡_, refl, sym, _∙_, ap, ap₂, subst}
-use mathlib.Core.Logic.{∥∥₁-elim}
+use mathlib.Core.Logic.{_↔_, ∥∥₁-elim}
 use mathlib.Core.HLevel.{¬-prop}
 use mathlib.Core.List.{List, [], _∷_, _++_, map, List·Mem, Pairwise, Pairwise·map, exists-of-mem-map}
 use Prim.Native.Nat.{ℕ, _≤_}
 use lib.IntN.{ℤ, pos}
 use lib.ListN.{length, length-map}
-use Rattle.algebra.specs.Rational.{Rat, Same, whole, oneQ, addQ, mulQ, negQ}
+use Rattle.algebra.specs.Rational.{Rat, Same, whole, addQ, mulQ}
 use Rattle.algebra.specs.Polynomial.{Equal, sum, product, derivative, value}
 use Rattle.algebra.specs.Textbook.{IsZero, HasDegree, Divides, IsDivision, IsGcd, IsRoot}
-use Rattle.algebra.proofs.Reflect.{ring!, reify}
 use Rattle.algebra.proofs.Whole.{ℤ-ring, ℤ-domain}
 use Rattle.algebra.proofs.WholeDivides.{Dvdℤ, only-one-coprime}
 use Rattle.algebra.proofs.Lowest.{LowestTerms}
 use Rattle.algebra.proofs.Embedding.{into}
-use Rattle.algebra.proofs.Rational.{ℚ-ring, ℚ-domain, ℚ-field, _+ℚ_, _*ℚ_, 0ℚ, val, val-fr, den-ne, same-val, val-add, val-mul, val-neg, val-whole}
-use Rattle.algebra.proofs.Series.{Below}
-use Rattle.algebra.proofs.Poly.{Poly-ring, conP}
-use Rattle.algebra.proofs.Constants.{con-neg}
-use Rattle.algebra.proofs.Monomials.{X}
-use Rattle.algebra.proofs.Degree.{HasDeg, degree-of, deg-unique}
+use Rattle.algebra.proofs.Rational.{ℚ-ring, ℚ-domain, ℚ-field, _+ℚ_, _*ℚ_, 0ℚ, val, val-fr, den-ne, same-val, val-add, val-mul, val-whole}
+use Rattle.algebra.proofs.Poly.{Poly-ring}
+use Rattle.algebra.proofs.Degree.{HasDeg, degree-of}
 use Rattle.algebra.proofs.Division.{Division, divide, quot-unique, rem-unique}
 use Rattle.algebra.proofs.Divides.{Dvd}
 use Rattle.algebra.proofs.Bezout.{Bezout}
-use Rattle.algebra.proofs.Monic.{IsGcdP, bez-is-gcd, gcd-unique as gcdP-unique}
+use Rattle.algebra.proofs.Monic.{IsGcdP, bez-is-gcd, gcdP-unique}
 use Rattle.algebra.proofs.Gcd.{MonicGcd, monic-gcd}
 use Rattle.algebra.proofs.Evaluation.{ev, ev-add, ev-mul, horner, ev-polyOf}
-use Rattle.algebra.proofs.Roots.{linear, root-divides, divides-root, roots-few}
+use Rattle.algebra.proofs.Roots.{root-divides, divides-root, roots-few}
 use Rattle.algebra.proofs.Derivative.{derP, der-mul}
 use Rattle.algebra.proofs.RationalRoot.{hom, root-constant, root-leading, fraction-hom}
-use Rattle.algebra.proofs.Lists.{_+P_, _*P_, poly, poly-of, poly-cons, poly-one, poly-equal, poly-sum, poly-product, poly-derivative, val-value, listOf, poly-listOf}
-use Rattle.algebra.proofs.ListWords.{zero-from, degree-to, lower-to, lower-from, divides-to, divides-from, division-to, division-from, combines-from, gcd-to, gcd-from, root-to, root-from}
+use Rattle.algebra.proofs.Lists.{_+P_, _*P_, poly, poly-of, poly-equal, poly-sum, poly-product, poly-derivative, val-value, listOf, poly-listOf, xMinus, poly-xMinus}
+use Rattle.algebra.proofs.ListWords.{zero-from, degree-to, lower-to, lower-from, divides-to, divides-from, division-from, as-division, combines-from, gcd-to, gcd-from, root-to, root-from}
 
 -- sums and products, by values and by derivatives
 pub value-of-sum : (p q : List Rat) (x : Rat) → Same (value (sum p q) x) (addQ (value p x) (value q x))
@@ -63,16 +59,6 @@ division-exists a b h =
           (lower-from r b n d (λ k l. ap (λ t. t .0 k) (poly-listOf (z .rem)) ∙ z .small k l)),
     )
 
-as-division : (a b q r : List Rat) → IsDivision a b q r → (n : ℕ) → HasDeg ℚ-ring (poly b) n → Division ℚ-ring (poly b) n (poly a)
-as-division a b q r h n d =
-    let (e, s) = lower-to r b (h .lower) in
-    record {
-      quot = poly q;
-      rem = poly r;
-      is = division-to a b q r h ∙ ap (λ z. z +P poly r) (Poly-ring ℚ-ring .mul-comm (poly q) (poly b));
-      small = subst (λ m. Below ℚ-ring m (poly r .0)) (deg-unique ℚ-ring (poly b) (h .lower .degree) n e d) s;
-    }
-
 pub division-unique : (a b q r q′ r′ : List Rat) → IsDivision a b q r → IsDivision a b q′ r′ → Equal q q′ × Equal r r′
 unfolding as-division
 division-unique a b q r q′ r′ x y =
@@ -97,20 +83,11 @@ pub gcd-unique : (a b g h : List Rat) → IsGcd a b g → IsGcd a b h → Equal 
 gcd-unique a b g h x y = poly-equal g h (gcdP-unique ℚ-domain (poly a) (poly b) (poly g) (poly h) (gcd-to a b g x) (gcd-to a b h y))
 
 -- the factor theorem: r is a root exactly if x − r divides
-abbrev pub xMinus : Rat → List Rat
-xMinus r = negQ r ∷ oneQ ∷ []
-
-pub poly-xMinus : (r : Rat) → poly (xMinus r) ≡ linear ℚ-ring (val r)
-unfolding linear
-poly-xMinus r =
-    poly-cons (negQ r) (oneQ ∷ []) ∙ ap₂ (λ c z. c +P X ℚ-ring *P z) (ap (conP ℚ-ring) (val-neg r) ∙ con-neg ℚ-ring (val r)) poly-one
-    ∙ ring! (Poly-ring ℚ-ring) (X ℚ-ring ∷ conP ℚ-ring (val r) ∷ []) (search reify depth 30 fits 20000) tt
-
-pub root-divisor : (p : List Rat) (r : Rat) → IsRoot p r → Divides (xMinus r) p
-root-divisor p r h = divides-from (xMinus r) p (subst (λ d. Dvd (Poly-ring ℚ-ring) d (poly p)) (sym (poly-xMinus r)) (root-divides ℚ-domain (poly p) (val r) (root-to p r h)))
-
-pub divisor-root : (p : List Rat) (r : Rat) → Divides (xMinus r) p → IsRoot p r
-divisor-root p r h = root-from p r (divides-root ℚ-ring (poly p) (val r) (subst (λ d. Dvd (Poly-ring ℚ-ring) d (poly p)) (poly-xMinus r) (divides-to (xMinus r) p h)))
+pub factor-theorem : (p : List Rat) (r : Rat) → IsRoot p r ↔ Divides (xMinus r) p
+factor-theorem p r = (
+  λ h. divides-from (xMinus r) p (subst (λ d. Dvd (Poly-ring ℚ-ring) d (poly p)) (sym (poly-xMinus r)) (root-divides ℚ-domain (poly p) (val r) (root-to p r h))),
+  λ h. root-from p r (divides-root ℚ-ring (poly p) (val r) (subst (λ d. Dvd (Poly-ring ℚ-ring) d (poly p)) (poly-xMinus r) (divides-to (xMinus r) p h))),
+)
 
 -- a polynomial of degree n has no more than n roots
 pub few-roots : (p : List Rat) (n : ℕ) → HasDegree p n → (l : List Rat) → Pairwise (λ x y. Same x y → ⊥) l → ((x : Rat) → List·Mem x l → IsRoot p x) → length l ≤ n
