@@ -3,7 +3,7 @@ use mathlib.Core.Path.{_≡_, _∙_}
 use mathlib.Core.Logic.{_≢_}
 use mathlib.Core.List.{[], _∷_}
 use Rattle.algebra.proofs.Ring.{CRing, Domain, by1, by2, by3}
-use Rattle.algebra.proofs.Divides.{Dvd, dvd-comb, Coprime}
+use Rattle.algebra.proofs.Divides.{Dvd, dvd-combination, Coprime}
 use Rattle.algebra.proofs.Reflect.{ring!, reify}
 
 module _ {A : Type 0} (R : CRing A) where
@@ -30,7 +30,7 @@ module _ {A : Type 0} (R : CRing A) where
 
   -- each common divisor divides it
   pub bez-greatest : (a b : A) (z : Bezout a b) (k : A) → Dvd R k a → Dvd R k b → Dvd R k (z .g)
-  bez-greatest a b z k d e = let (l, f) = dvd-comb R k a b (z .u) (z .v) d e in (l, z .comb ∙ f)
+  bez-greatest a b z k d e = let (l, f) = dvd-combination R k a b (z .u) (z .v) d e in (l, z .comb ∙ f)
 
   cofactors : (a b : A) (z : Bezout a b) → (z .a′ * z .u + z .b′ * z .v) * z .g ≡ 𝟙 * z .g
   cofactors a b z = by3 R (- 𝟙) (z .comb) (- z .u) (z .div-a) (- z .v) (z .div-b)
@@ -60,10 +60,6 @@ module _ {A : Type 0} (R : CRing A) where
     div-a = e ∙ by2 R q (z .div-a) 𝟙 (z .div-b) (ring! R (b ∷ q ∷ r ∷ z .g ∷ z .a′ ∷ z .b′ ∷ []) (search reify depth 30 fits 20000) tt);
     div-b = z .div-a;
   }
-
-  -- Euclid's lemma: where a and b have no common divisor but units, a divides b c only if it divides c
-  pub coprime-divides : (a b c u v d : A) → a * u + b * v ≡ 𝟙 → b * c ≡ a * d → c ≡ a * (u * c + v * d)
-  coprime-divides a b c u v d e f = by2 R (- c) e v f (ring! R (a ∷ b ∷ c ∷ u ∷ v ∷ d ∷ []) (search reify depth 30 fits 20000) tt)
 
   pub bez-neg-l : (a b : A) → Bezout a b → Bezout (- a) b
   bez-neg-l a b z = record {

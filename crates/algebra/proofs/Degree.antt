@@ -1,15 +1,17 @@
--- The polynomials over a domain are a domain.
-use mathlib.Core.Path.{_≡_, refl, sym, _∙_, ap, ap₂, subst, fun-ext}
-use mathlib.Core.Logic.{_≢_, ∥∥₁-elim, Dec-prop}
-use mathlib.Core.HLevel.{Π-prop}
-use mathlib.Core.List.{List, [], _∷_}
+-- The degree of a polynomial; over a domain the least bound is a function, so a polynomial is zero or has a degree.
+use mathlib.Core.Path.{_≡_, refl, sym, _∙_, ap, subst, fun-ext}
+use mathlib.Core.Logic.{_≢_}
+use mathlib.Core.HLevel.{Π-prop, ×-prop, Σ-prop-path}
+use mathlib.Core.List.{[], _∷_}
 use Prim.Native.Nat.{ℕ, zero, suc, _≤_, _<_, _+_ as _+ⁿ_}
 use native.Mathlib.Omega.{arith}
-use native.Mathlib.Decide.{ℕ-discrete}
-use Rattle.algebra.proofs.Ring.{CRing, Domain, by1, by2, nil-mul, sub-nil}
+use native.Mathlib.Bridge.{le-prop}
+use native.Mathlib.Decide.{decLe}
+use Rattle.algebra.proofs.Ring.{CRing, Domain, by1, by2}
 use Rattle.algebra.proofs.Reflect.{ring!, reify}
-use Rattle.algebra.proofs.Series.{Ser, tl, mulS, nilS, conS, nil-mulS, Below}
-use Rattle.algebra.proofs.Poly.{Poly, IsPoly, addP, mulP, negP, nilP, conP, Poly-ring, Poly-set, poly-path}
+use Rattle.algebra.proofs.Series.{Ser, tl, mulS, nilS, nil-mulS, Below, below-add, below-mul, below-neg, below-con, below-down}
+use Rattle.algebra.proofs.Poly.{Poly, addP, mulP, negP, nilP, conP, by-bound, nil-at, mul-at, nil-below}
+use Rattle.algebra.proofs.Constants.{con-at-zero}
 
 module _ {A : Type 0} (R : CRing A) where
   open CRing R using (add as _+_, mul as _*_, neg as -_, nil as 𝟘, one as 𝟙)
@@ -18,7 +20,7 @@ module _ {A : Type 0} (R : CRing A) where
   infixl 70 _*_
   infix 75 -_
   -- the leading coefficient of a product
-  pub lead-mul : (m n i : ℕ) (s t : Ser R) → Below R (suc m) s → Below R (suc n) t → i ≡ m +ⁿ n → mulS R s t i ≡ s m * t n
+  lead-mul : (m n i : ℕ) (s t : Ser R) → Below R (suc m) s → Below R (suc n) t → i ≡ m +ⁿ n → mulS R s t i ≡ s m * t n
   unfolding mulS
   lead-mul zero n zero s t hs ht e = ap (λ k. s zero * t k) (omega arith)
   lead-mul zero n (suc i) s t hs ht e =
@@ -31,83 +33,129 @@ module _ {A : Type 0} (R : CRing A) where
       by2 R (s zero) (ht (suc i) (omega arith)) 𝟙 (lead-mul m n i (tl R s) t (λ k h. hs (suc k) (omega arith)) ht (omega arith))
       (ring! R (s zero ∷ t (suc i) ∷ s (suc m) ∷ t n ∷ mulS R (tl R s) t i ∷ []) (search reify depth 30 fits 20000) tt)
 
+  pub mul-lead : (p q : Poly R) (m n : ℕ) → Below R (suc m) (p .0) → Below R (suc n) (q .0) → mulP R p q .0 (m +ⁿ n) ≡ p .0 m * q .0 n
+  mul-lead p q m n hp hq = mul-at R p q (m +ⁿ n) ∙ lead-mul m n (m +ⁿ n) (p .0) (q .0) hp hq refl
+
+  pub mul-below : (p q : Poly R) (m n : ℕ) → Below R (suc m) (p .0) → Below R (suc n) (q .0) → Below R (suc (m +ⁿ n)) (mulP R p q .0)
+  mul-below p q m n hp hq k h = mul-at R p q k ∙ below-mul R (suc m) (suc n) (p .0) (q .0) hp hq k (omega arith)
+
+  pub sum-below : (p q : Poly R) (n : ℕ) → Below R n (p .0) → Below R n (q .0) → Below R n (addP R p q .0)
+  unfolding addP
+  sum-below p q n hp hq = below-add R n (p .0) (q .0) hp hq
+
+  pub neg-below : (p : Poly R) (n : ℕ) → Below R n (p .0) → Below R n (negP R p .0)
+  unfolding negP
+  neg-below p n h = below-neg R n (p .0) h
+
+  pub con-below : (a : A) → Below R 1 (conP R a .0)
+  unfolding conP
+  con-below a = below-con R a
+
+  -- degree n: xⁿ has a coefficient that is not 0, and no higher power has
+  pub record HasDeg (p : Poly R) (n : ℕ) : Type 0 where
+    pub leads : p .0 n ≢ 𝟘
+    pub ends : Below R (suc n) (p .0)
+
+  -- a degree is below every bound
+  pub deg-bound : (p : Poly R) (n m : ℕ) → HasDeg p n → Below R m (p .0) → n < m
+  deg-bound p n m d h = go (decLe m n)
+    where
+      go : Dec (m ≤ n) → n < m
+      go (yes l) = absurd (d .leads (h n l))
+      go (no f) = omega arith
+
+  pub deg-unique : (p : Poly R) (m n : ℕ) → HasDeg p m → HasDeg p n → m ≡ n
+  deg-unique p m n d e =
+      let a : m < suc n = deg-bound p m (suc n) d (e .ends) in
+      let b : n < suc m = deg-bound p n (suc m) e (d .ends) in
+      omega arith
+
+  pub deg-not-nil : (p : Poly R) (n : ℕ) → HasDeg p n → p ≢ nilP R
+  deg-not-nil p n d e = d .leads (ap (λ z. z .0 n) e ∙ nil-at R n)
+
+  pub deg-con : (a : A) → a ≢ 𝟘 → HasDeg (conP R a) 0
+  deg-con a h = record { leads = λ e. h (sym (con-at-zero R a) ∙ e); ends = con-below a }
+
+  -- the longer part of a sum leads
+  pub deg-add : (p q : Poly R) (n : ℕ) → HasDeg p n → Below R n (q .0) → HasDeg (addP R p q) n
+  unfolding addP
+  deg-add p q n d h = record {
+    leads = λ e. d .leads (by2 R 𝟙 e (- 𝟙) (h n (omega arith)) (ring! R (p .0 n ∷ q .0 n ∷ []) (search reify depth 30 fits 20000) tt));
+    ends = sum-below p q (suc n) (d .ends) (λ k l. h k (omega arith));
+  }
+
 module _ {A : Type 0} (D : Domain A) where
   abbrev R : CRing A
   R = D .ring
 
-  pub data Degree (n : ℕ) (s : Ser R) : Type 0 where
-    none : s ≡ nilS R → Degree n s
-    deg : (m : ℕ) → m < n → Below R (suc m) s → s m ≢ R .nil → Degree n s
+  -- the least bound
+  Least : Ser R → Type 0
+  Least s = (n : ℕ) × (Below R n s × ((m : ℕ) → Below R m s → n ≤ m))
 
-  pub degree : (n : ℕ) (s : Ser R) → Below R n s → Degree n s
-  degree zero s h = none (fun-ext (λ k. h k (omega arith)))
-  degree (suc n) s h = go (λ b. degree n s b) (D .discrete (s n) (R .nil))
+  least-prop : (s : Ser R) → IsProp (Least s)
+  unfolding Least
+  least-prop s x y = Σ-prop-path (λ n. ×-prop (Π-prop (λ k. Π-prop (λ h. R .isSet (s k) (R .nil)))) (Π-prop (λ m. Π-prop (λ h. le-prop))))
+      (let a : x .0 ≤ y .0 = x .1 .1 (y .0) (y .1 .0) in let b : y .0 ≤ x .0 = y .1 .1 (x .0) (x .1 .0) in omega arith)
+
+  least : (n : ℕ) (s : Ser R) → Below R n s → Least s
+  unfolding Least
+  least zero s h = (0, (h, λ m g. omega arith))
+  least (suc n) s h = go (λ b. least n s b) (D .discrete (s n) (R .nil))
     where
-      down : s n ≡ R .nil → Below R n s
-      down e k g = pick (ℕ-discrete k n)
+      over : s n ≢ R .nil → (m : ℕ) → Below R m s → suc n ≤ m
+      over f m b = pick (decLe m n)
         where
-          pick : Dec (k ≡ n) → s k ≡ R .nil
-          pick (yes p) = ap s p ∙ e
-          pick (no f) = h k (omega arith)
+          pick : Dec (m ≤ n) → suc n ≤ m
+          pick (yes l) = absurd (f (b n l))
+          pick (no g) = omega arith
 
-      wide : Degree n s → Degree (suc n) s
-      wide (none e) = none e
-      wide (deg m l b z) = deg m (omega arith) b z
+      go : (Below R n s → Least s) → Dec (s n ≡ R .nil) → Least s
+      go rec (yes e) = rec (below-down R n s h e)
+      go rec (no f) = (suc n, (h, over f))
 
-      go : (Below R n s → Degree n s) → Dec (s n ≡ R .nil) → Degree (suc n) s
-      go rec (yes e) = wide (rec (down e))
-      go rec (no f) = deg n (omega arith) h f
+  least-of : (p : Poly R) → Least (p .0)
+  least-of p = by-bound R p (Least (p .0)) (least-prop (p .0)) (λ n b. least n (p .0) b)
 
-  -- to prove a proposition of p, take its degree
-  pub by-degree : (p : Poly R) (P : Type 0) → IsProp P → ((n : ℕ) → Degree n (p .0) → P) → P
-  unfolding IsPoly
-  by-degree p P h f = ∥∥₁-elim (p .1) h (λ (n, b). f n (degree n (p .0) b))
+  -- the number of coefficients up to the last that is not 0
+  pub lengthP : Poly R → ℕ
+  unfolding Least
+  lengthP p = least-of p .0
 
-  pub nil-path : (p : Poly R) → p .0 ≡ nilS R → p ≡ nilP R
-  unfolding nilP
-  nil-path p e = poly-path R p (nilP R) e
+  pub length-below : (p : Poly R) → Below R (lengthP p) (p .0)
+  unfolding Least lengthP
+  length-below p = least-of p .1 .0
 
-  coeff : (p : Poly R) → p ≡ nilP R → (k : ℕ) → p .0 k ≡ R .nil
-  unfolding nilP
-  coeff p e k = ap (λ x. x .0 k) e
+  pub length-least : (p : Poly R) (m : ℕ) → Below R m (p .0) → lengthP p ≤ m
+  unfolding Least lengthP
+  length-least p = least-of p .1 .1
 
-  mul-coeff : (p q : Poly R) → mulP R p q ≡ nilP R → (k : ℕ) → mulS R (p .0) (q .0) k ≡ R .nil
-  unfolding mulP
-  mul-coeff p q e k = coeff (mulP R p q) e k
+  -- the last of them is not 0
+  pub length-lead : (p : Poly R) (m : ℕ) → lengthP p ≡ suc m → p .0 m ≢ R .nil
+  length-lead p m e z =
+      let l : lengthP p ≤ m = length-least p m (below-down R m (p .0) (subst (λ n. Below R n (p .0)) e (length-below p)) z) in
+      absurd (omega arith)
 
-  ne-mul : (a b : A) → a ≢ R .nil → b ≢ R .nil → R .mul a b ≢ R .nil
-  ne-mul a b h k e = h (D .cancel a (R .nil) b k (e ∙ sym (nil-mul R b)))
+  -- the polynomial is zero, or it has a degree
+  pub data Size (p : Poly R) : Type 0 where
+    null : p ≡ nilP R → Size p
+    sized : (n : ℕ) → HasDeg R p n → Size p
 
-  no-zero-div : (p q : Poly R) → q ≢ nilP R → mulP R p q ≡ nilP R → p ≡ nilP R
-  no-zero-div p q h e = by-degree p (p ≡ nilP R) (Poly-set R p (nilP R)) (λ m dp. by-degree q (p ≡ nilP R) (Poly-set R p (nilP R)) (λ n dq. go m n dp dq))
+  pub size : (p : Poly R) → Size p
+  size p = go (lengthP p) refl
     where
-      go : (m n : ℕ) → Degree m (p .0) → Degree n (q .0) → p ≡ nilP R
-      go m n (none z) dq = nil-path p z
-      go m n (deg i l b z) (none z′) = absurd (h (nil-path q z′))
-      go m n (deg i l b z) (deg j l′ b′ z′) =
-          absurd (ne-mul (p .0 i) (q .0 j) z z′ (sym (lead-mul R i j (i +ⁿ j) (p .0) (q .0) b b′ refl) ∙ mul-coeff p q e (i +ⁿ j)))
+      go : (n : ℕ) → lengthP p ≡ n → Size p
+      go zero e = null (nil-below R p (subst (λ n. Below R n (p .0)) e (length-below p)))
+      go (suc m) e = sized m (record { leads = length-lead p m e; ends = subst (λ n. Below R n (p .0)) e (length-below p) })
 
-  pub P-cancel : (a b c : Poly R) → c ≢ nilP R → mulP R a c ≡ mulP R b c → a ≡ b
-  P-cancel a b c h e = sub-nil (Poly-ring R) a b (no-zero-div (addP R a (negP R b)) c h
-      (by1 (Poly-ring R) (conP R (R .one)) e (ring! (Poly-ring R) (a ∷ b ∷ c ∷ []) (search reify depth 30 fits 20000) tt)))
-
-  dec-nil : (p : Poly R) → Dec (p ≡ nilP R)
-  dec-nil p = by-degree p (Dec (p ≡ nilP R)) (Dec-prop (Poly-set R p (nilP R))) (λ n d. go n d)
+  pub degree-of : (p : Poly R) → p ≢ nilP R → (n : ℕ) × HasDeg R p n
+  degree-of p h = go (size p)
     where
-      go : (n : ℕ) → Degree n (p .0) → Dec (p ≡ nilP R)
-      go n (none z) = yes (nil-path p z)
-      go n (deg m l b z) = no (λ e. z (coeff p e m))
+      go : Size p → (n : ℕ) × HasDeg R p n
+      go (null e) = absurd (h e)
+      go (sized n d) = (n, d)
 
-  pub P-discrete : Discrete (Poly R)
-  P-discrete a b = go (dec-nil (addP R a (negP R b)))
-    where
-      go : Dec (addP R a (negP R b) ≡ nilP R) → Dec (a ≡ b)
-      go (yes e) = yes (sub-nil (Poly-ring R) a b e)
-      go (no f) = no (λ e. f (by1 (Poly-ring R) (conP R (R .one)) e (ring! (Poly-ring R) (a ∷ b ∷ []) (search reify depth 30 fits 20000) tt)))
-
-  pub P-proper : conP R (R .one) ≢ nilP R
-  unfolding conP conS
-  P-proper e = D .proper (coeff (conP R (R .one)) e 0)
-
-  abbrev pub Poly-domain : Domain (Poly R)
-  Poly-domain = record { ring = Poly-ring R; proper = P-proper; cancel = P-cancel; discrete = P-discrete }
+  pub length-deg : (p : Poly R) (n : ℕ) → HasDeg R p n → lengthP p ≡ suc n
+  length-deg p n d =
+      let a : lengthP p ≤ suc n = length-least p (suc n) (d .ends) in
+      let b : n < lengthP p = deg-bound R p n (lengthP p) d (length-below p) in
+      omega arith

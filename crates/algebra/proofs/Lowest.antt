@@ -5,7 +5,7 @@ use mathlib.Core.List.{[], _∷_}
 use Prim.Native.Nat.{ℕ, _*_, _/_, _<_, _∣_}
 use native.Mathlib.Bridge.{le-prop}
 use native.Mathlib.Nat.{dvd-antisymm, dvd-mul-right, div-mul-cancel, pos-of-dvd-of-pos}
-use lib.IntN.{pos, _*ℤ_, natAbs, *ℤ-comm}
+use lib.IntN.{pos, _*ℤ_, natAbs}
 use Rattle.algebra.specs.Rational.{Rat, Same}
 use Rattle.algebra.proofs.Ring.{CRing, by2}
 use Rattle.algebra.proofs.Reflect.{ring!, reify}
@@ -27,7 +27,7 @@ half : (x y : Rat) → LowestTerms x → Same x y → x .den ∣ y .den
 half x y l e = dvd-abs (pos (x .den)) (pos (y .den))
     (coprime-dvd ℤ-ring (pos (x .den)) (x .num) (pos (y .den))
     (coprime-sym ℤ-ring (x .num) (pos (x .den)) (only-one-coprime (x .num) (pos (x .den)) l))
-    (y .num, *ℤ-comm (pos (y .den)) (x .num) ∙ e))
+    (y .num, e))
 
 pub lowest-unique : (x y : Rat) → LowestTerms x → LowestTerms y → Same x y → x ≡ y
 lowest-unique x y l m e =

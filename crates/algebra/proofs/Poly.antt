@@ -1,13 +1,11 @@
--- Polynomials: the series that end. A commutative ring with path equality, and division with remainder over a field.
-use mathlib.Core.Path.{_≡_, refl, sym, _∙_, ap, ap₂, subst, fun-ext}
-use mathlib.Core.HLevel.{Π-set, Σ-set, Σ-prop-path, prop→set}
-use mathlib.Core.Logic.{_≢_, ∥∥₁-prop, ∥∥₁-map, ∥∥₁-map₂, ∥∥₁-elim}
-use mathlib.Core.List.{List, [], _∷_}
-use Prim.Native.Nat.{ℕ, zero, suc, _≤_, _+_ as _+ⁿ_}
+-- Polynomials: the series that end. A commutative ring with path equality; p .0 n is the coefficient of xⁿ.
+use mathlib.Core.Path.{_≡_, refl, sym, _∙_, fun-ext}
+use mathlib.Core.HLevel.{Σ-set, Σ-prop-path, prop→set}
+use mathlib.Core.Logic.{∥∥₁-prop, ∥∥₁-map, ∥∥₁-map₂, ∥∥₁-elim}
+use Prim.Native.Nat.{ℕ, _+_ as _+ⁿ_}
 use native.Mathlib.Omega.{arith}
-use Rattle.algebra.proofs.Ring.{CRing, Field, by1, by2}
-use Rattle.algebra.proofs.Reflect.{ring!, reify}
-use Rattle.algebra.proofs.Series.{Ser, tl, addS, mulS, negS, nilS, conS, Ser-ring, Below, below-mul, below-add, below-neg, below-con}
+use Rattle.algebra.proofs.Ring.{CRing}
+use Rattle.algebra.proofs.Series.{Ser, addS, mulS, negS, nilS, conS, Ser-ring, Below, below-mul, below-add, below-neg, below-con}
 
 module _ {A : Type 0} (R : CRing A) where
   unfoldable pub IsPoly : Ser R → Type 0
@@ -22,11 +20,11 @@ module _ {A : Type 0} (R : CRing A) where
 
   pub poly-add : (p q : Poly) → IsPoly (addS R (p .0) (q .0))
   unfolding IsPoly
-  poly-add p q = ∥∥₁-map₂ (p .1) (q .1) (λ (m, hm) (n, hn). (m +ⁿ n, below-add R m n (p .0) (q .0) hm hn))
+  poly-add p q = ∥∥₁-map₂ (p .1) (q .1) (λ (m, hm) (n, hn). (m +ⁿ n, below-add R (m +ⁿ n) (p .0) (q .0) (λ k h. hm k (omega arith)) (λ k h. hn k (omega arith))))
 
   pub poly-mul : (p q : Poly) → IsPoly (mulS R (p .0) (q .0))
   unfolding IsPoly
-  poly-mul p q = ∥∥₁-map₂ (p .1) (q .1) (λ (m, hm) (n, hn). (m +ⁿ n, below-mul R m n (p .0) (q .0) hm hn))
+  poly-mul p q = ∥∥₁-map₂ (p .1) (q .1) (λ (m, hm) (n, hn). (m +ⁿ n, λ k h. below-mul R m n (p .0) (q .0) hm hn k (omega arith)))
 
   pub poly-neg : (p : Poly) → IsPoly (negS R (p .0))
   unfolding IsPoly
@@ -57,6 +55,10 @@ module _ {A : Type 0} (R : CRing A) where
 
   pub poly-path : (p q : Poly) → p .0 ≡ q .0 → p ≡ q
   poly-path p q e = Σ-prop-path isPoly-prop e
+
+  -- polynomials with equal coefficients are equal
+  pub poly-ext : (p q : Poly) → ((n : ℕ) → p .0 n ≡ q .0 n) → p ≡ q
+  poly-ext p q e = poly-path p q (fun-ext e)
 
   pub Poly-set : IsSet Poly
   unfolding Ser-ring
@@ -112,12 +114,34 @@ module _ {A : Type 0} (R : CRing A) where
     distl = P-distl;
   }
 
--- identities of polynomials by the same call
-module _ {A : Type 0} (R : CRing A) where
-  test : (p q r : Poly R) → mulP R (addP R p q) r ≡ addP R (mulP R r q) (mulP R p r)
-  test p q r = ring! (Poly-ring R) (p ∷ q ∷ r ∷ []) (search reify depth 20) tt
-
-module _ {A : Type 0} (R : CRing A) where
-  unfoldable pub mk-poly : (n : ℕ) (s : Ser R) → Below R n s → Poly R
+  unfoldable pub mk-poly : (n : ℕ) (s : Ser R) → Below R n s → Poly
   unfolding IsPoly
   mk-poly n s h = (s, ∣ (n, h) ∣₁)
+
+  -- to prove a proposition of p, take a bound of it
+  pub by-bound : (p : Poly) (P : Type 0) → IsProp P → ((n : ℕ) → Below R n (p .0) → P) → P
+  unfolding IsPoly
+  by-bound p P h f = ∥∥₁-elim (p .1) h (λ (n, b). f n b)
+
+  -- the coefficients of the operations
+  pub nil-at : (n : ℕ) → nilP .0 n ≡ R .nil
+  unfolding nilP
+  nil-at n = refl
+
+  pub add-at : (p q : Poly) (n : ℕ) → addP p q .0 n ≡ R .add (p .0 n) (q .0 n)
+  unfolding addP
+  add-at p q n = refl
+
+  pub neg-at : (p : Poly) (n : ℕ) → negP p .0 n ≡ R .neg (p .0 n)
+  unfolding negP
+  neg-at p n = refl
+
+  pub mul-at : (p q : Poly) (n : ℕ) → mulP p q .0 n ≡ mulS R (p .0) (q .0) n
+  unfolding mulP
+  mul-at p q n = refl
+
+  pub nil-path : (p : Poly) → ((n : ℕ) → p .0 n ≡ R .nil) → p ≡ nilP
+  nil-path p e = poly-ext p nilP (λ n. e n ∙ sym (nil-at n))
+
+  pub nil-below : (p : Poly) → Below R 0 (p .0) → p ≡ nilP
+  nil-below p h = nil-path p (λ n. h n (omega arith))

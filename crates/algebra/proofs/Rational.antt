@@ -1,16 +1,16 @@
 -- The rationals: the field of fractions of the whole numbers. The pairs of specs/Rational are read in it by `val`: equal by cross products is equal here.
-use mathlib.Core.Path.{_≡_, refl, sym, _∙_, ap, ap₂}
+use mathlib.Core.Path.{_≡_, refl, sym, _∙_, ap}
 use mathlib.Core.Logic.{_≢_}
-use mathlib.Core.List.{[], _∷_}
 use Prim.Native.Nat.{ℕ, zero, suc}
-use native.Mathlib.Numerals.{add-one}
 use native.Mathlib.Omega.{arith}
-use lib.IntN.{ℤ, ℤ-discrete, pos, negsuc, negℤ, _+ℤ_, _*ℤ_}
+use lib.IntN.{ℤ, ℤ-discrete, pos, negsuc, negℤ, _*ℤ_}
 use Rattle.algebra.specs.Rational.{Rat, Same, whole, zeroQ, oneQ, addQ, mulQ, negQ, subQ, over}
-use Rattle.algebra.proofs.Ring.{CRing, Domain, Field, Field-domain, nat, nat-zero, nat-suc, neg-mul, mul-neg}
-use Rattle.algebra.proofs.Whole.{ℤ-ring, ℤ-domain, pos-ne, pos-inj, one-*ℤ}
+use Rattle.algebra.proofs.Ring.{CRing, Domain, Field, Field-domain, nat, neg-mul, mul-neg}
+use Rattle.algebra.proofs.RingMap.{map-nat}
+use Rattle.algebra.proofs.Whole.{ℤ-ring, ℤ-domain, pos-inj}
+use Rattle.algebra.proofs.WholeNumerals.{nat-ℤ}
 use Rattle.algebra.proofs.Fraction.{Frac, addF, mulF, negF, nilF, oneF, invF, fr, fr-eq, fr-inj, fr-add, fr-mul, fr-neg, fr-inv, fr-nil, fr-one, nil-fr, Frac-ring, Frac-field}
-use Rattle.algebra.proofs.Reflect.{ring!, reify}
+use Rattle.algebra.proofs.Embedding.{into, into-map}
 
 abbrev pub ℚ : Type 0
 ℚ = Frac ℤ-domain
@@ -102,25 +102,12 @@ pub val-sub : (x y : Rat) → val (subQ x y) ≡ val x +ℚ -ℚ val y
 val-sub x y = val-add x (negQ y) ∙ ap (λ t. val x +ℚ t) (val-neg y)
 
 -- whole numbers among the rationals
-pub whole-add : (a b : ℤ) → val (whole (a +ℤ b)) ≡ val (whole a) +ℚ val (whole b)
-whole-add a b = val-same (whole (a +ℤ b)) (addQ (whole a) (whole b)) (ring! ℤ-ring (a ∷ b ∷ []) (search reify depth 30 fits 20000) tt) ∙ val-add (whole a) (whole b)
+pub val-whole : (n : ℤ) → val (whole n) ≡ into ℤ-domain n
+unfolding val into
+val-whole n = fr-eq ℤ-domain n (pos 1) n (pos 1) (den-ne (whole n)) (ℤ-domain .proper) refl
 
-pub whole-mul : (a b : ℤ) → val (whole (a *ℤ b)) ≡ val (whole a) *ℚ val (whole b)
-whole-mul a b = val-same (whole (a *ℤ b)) (mulQ (whole a) (whole b)) refl ∙ val-mul (whole a) (whole b)
-
-pub whole-neg : (a : ℤ) → val (whole (negℤ a)) ≡ -ℚ val (whole a)
-whole-neg a = val-neg (whole a)
-
-pub whole-inj : (a b : ℤ) → val (whole a) ≡ val (whole b) → a ≡ b
-whole-inj a b e = sym (one-*ℤ a) ∙ same-val (whole a) (whole b) e ∙ one-*ℤ b
-
--- characteristic 0
 pub nat-ℚ : (n : ℕ) → nat ℚ-ring n ≡ val (whole (pos n))
-nat-ℚ zero = nat-zero ℚ-ring ∙ sym val-zero
-nat-ℚ (suc n) = nat-suc ℚ-ring n ∙ ap₂ _+ℚ_ (nat-ℚ n) (sym val-one) ∙ sym (whole-add (pos n) (pos 1)) ∙ ap (λ k. val (whole (pos k))) (add-one n)
-
-pub nat-ℚ-ne : (n : ℕ) → nat ℚ-ring (suc n) ≢ 0ℚ
-nat-ℚ-ne n e = pos-ne n (whole-inj (pos (suc n)) (pos 0) (sym (nat-ℚ (suc n)) ∙ e ∙ sym val-zero))
+nat-ℚ n = sym (map-nat ℤ-ring ℚ-ring (into-map ℤ-domain) n) ∙ ap (into ℤ-domain) (nat-ℤ n) ∙ sym (val-whole (pos n))
 
 -- n / d, and its inverse
 pub val-over : (n d : ℤ) (h : d ≢ pos 0) → val (over n d) ≡ fr ℤ-domain n d h

@@ -1,6 +1,6 @@
 -- A commutative ring: operations and laws in one flat record, and what every proof needs of it.
 use mathlib.Core.Path.{_≡_, refl, sym, _∙_, ap, ap₂}
-use mathlib.Core.Logic.{_≢_}
+use mathlib.Core.Logic.{_≢_, _⊎_, inl, inr}
 use mathlib.Core.HLevel.{Σ-prop-path}
 use Prim.Native.Nat.{ℕ, zero, suc, _^_, _+_ as _+ⁿ_, _*_ as _*ⁿ_}
 use native.Mathlib.Nat as NL
@@ -84,10 +84,6 @@ module _ {A : Type 0} (R : CRing A) where
 
   pub sub-nil : (a b : A) → a + - b ≡ 𝟘 → a ≡ b
   sub-nil a b e = sym (add-nil a) ∙ ap (λ t. a + t) (sym (neg-add b)) ∙ sym (add-assoc a (- b) b) ∙ ap (λ t. t + b) e ∙ nil-add b
-
-  -- a field of the record as a declared name, for lists of rules
-  pub r-mul-assoc : (a b c : A) → a * b * c ≡ a * (b * c)
-  r-mul-assoc = mul-assoc
 
 -- an equation from others: a − b is a combination of differences l − r that are 0
 module _ {A : Type 0} (R : CRing A) where
@@ -225,16 +221,26 @@ module _ {A : Type 0} (K : Field A) where
   abbrev pub Field-domain : Domain A
   Field-domain = record { ring = K .ring; proper = K .proper; cancel = field-cancel; discrete = K .discrete }
 
--- a domain has no zero divisors
+-- in a domain a product is zero only if a factor is
 module _ {A : Type 0} (D : Domain A) where
-  open CRing (D .ring) using (mul as _*_, nil as 𝟘)
+  open CRing (D .ring) using (mul as _*_, nil as 𝟘, mul-comm)
 
   infixl 70 _*_
-  pub no-zero-div : (a b : A) → a * b ≡ 𝟘 → b ≢ 𝟘 → a ≡ 𝟘
-  no-zero-div a b e h = D .cancel a 𝟘 b h (e ∙ sym (nil-mul (D .ring) b))
+  pub nil-left : (a b : A) → b ≢ 𝟘 → a * b ≡ 𝟘 → a ≡ 𝟘
+  nil-left a b h e = D .cancel a 𝟘 b h (e ∙ sym (nil-mul (D .ring) b))
+
+  pub nil-right : (a b : A) → a ≢ 𝟘 → a * b ≡ 𝟘 → b ≡ 𝟘
+  nil-right a b h e = nil-left b a h (mul-comm b a ∙ e)
+
+  pub nil-factor : (a b : A) → a * b ≡ 𝟘 → (a ≡ 𝟘) ⊎ (b ≡ 𝟘)
+  nil-factor a b e = go (D .discrete b 𝟘)
+    where
+      go : Dec (b ≡ 𝟘) → (a ≡ 𝟘) ⊎ (b ≡ 𝟘)
+      go (yes z) = inr z
+      go (no f) = inl (nil-left a b f e)
 
   pub mul-ne : (a b : A) → a ≢ 𝟘 → b ≢ 𝟘 → a * b ≢ 𝟘
-  mul-ne a b h k e = h (no-zero-div a b e k)
+  mul-ne a b h k e = h (nil-left a b k e)
 
   pub pow-ne : (a : A) → a ≢ 𝟘 → (n : ℕ) → pow (D .ring) a n ≢ 𝟘
   pow-ne a h zero e = D .proper (sym (pow-zero (D .ring) a) ∙ e)

@@ -7,7 +7,7 @@ use native.Mathlib.Nat.{ℕ-set, dvd-mul-left, eq-one-of-dvd-one, div-mul-cancel
 use lib.IntN.{ℤ, pos, negsuc, _*ℤ_, natAbs}
 use Rattle.algebra.proofs.Ring.{CRing, by2, pow}
 use Rattle.algebra.proofs.Reflect.{ring!, reify}
-use Rattle.algebra.proofs.Divides.{Dvd, Coprime, coprime-unit, coprime-pow, dvd-neg, neg-dvd}
+use Rattle.algebra.proofs.Divides.{Dvd, Coprime, coprime-unit, coprime-dvd-pow, dvd-neg, neg-dvd}
 use Rattle.algebra.proofs.Bezout.{Bezout, bez-dvd-l, bez-dvd-r}
 use Rattle.algebra.proofs.Whole.{ℤ-ring, abs-mul, abs-square}
 use Rattle.algebra.proofs.WholeGcd.{bezout}
@@ -59,5 +59,5 @@ only-one-coprime a b h =
     unit-comb ℤ-ring a b (z .g) (z .u) (z .v) (z .comb) (abs-square (z .g) ∙ ap (λ n. pos (n * n)) one)
 
 -- p divides a qⁿ and has no divisor in common with q: it divides a
-pub only-one-pow : (p q a : ℤ) → OnlyOne (natAbs p) (natAbs q) → (n : ℕ) → Dvdℤ p (a *ℤ pow ℤ-ring q n) → Dvdℤ p a
-only-one-pow p q a h = coprime-pow ℤ-ring p q a (only-one-coprime p q h)
+pub only-one-pow : (p q a : ℤ) (n : ℕ) → OnlyOne (natAbs p) (natAbs q) → Dvdℤ p (a *ℤ pow ℤ-ring q n) → Dvdℤ p a
+only-one-pow p q a n h = coprime-dvd-pow ℤ-ring p q a n (only-one-coprime p q h)
