@@ -7,6 +7,7 @@ ghost use Prim.Native.Nat.{_*_, _≤_};
 ghost use lib.IntN.{pos, natAbs, negℤ, _+ℤ_, _*ℤ_};
 ghost use lib.Signed.{ltZ};
 ghost use Rattle.algebra.specs.Rational.{addQ, subQ, mulQ, negQ, over};
+ghost use Rattle.ratio.specs.Refusal.{numberOf};
 ghost use Rattle.ratio.specs.Range.{limit, Within, within};
 ghost use Rattle.ratio.specs.Gcd.{gcdOf, IsGcd};
 ghost use Rattle.ratio.specs.Number.{productOf, wholeOf, wide};
@@ -24,6 +25,23 @@ pub enum Reason {
     Budget,
     TooDeep,
     NoRoom,
+}
+
+// Document 01's number of a reason.
+pub fn number(why: Reason) -> u64
+    ensures is { λ r. ⌜ r ≡ numberOf why ⌝ }
+{
+    match why {
+        Reason::NotPolynomial => 1,
+        Reason::CoeffOverflow => 2,
+        Reason::DivByZero => 3,
+        Reason::TooLong => 4,
+        Reason::BadInput => 5,
+        Reason::Malformed { at: _ } => 5,
+        Reason::Budget => 6,
+        Reason::TooDeep => 7,
+        Reason::NoRoom => 8,
+    }
 }
 
 pub struct Ratio {

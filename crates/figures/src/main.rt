@@ -1,0 +1,60 @@
+// Document 01's figures that are run: each line says what was asked and what came of it. Those marked P are proved, in specs/Figures.antt.
+use divisors::Found;
+use libc::STDOUT_FILENO;
+use ratio::Outcome;
+
+fn status(o: Outcome) -> u64 {
+    match o {
+        Outcome::Done => 0,
+        Outcome::Refused(why) => ratio::number(why),
+    }
+}
+
+fn show(n: i64) {
+    if n < 0 {
+        io::write_all(STDOUT_FILENO, b" -");
+    } else {
+        io::write_all(STDOUT_FILENO, b" ");
+    }
+    io::print_decimal(STDOUT_FILENO, ratio::magnitude(n));
+}
+
+// The entries of a listing, in order.
+fn entries(size: u64, marks: &[u64; 1024]) {
+    let mut at: usize = 0;
+    while at < 262144 {
+        match divisors::next_factor(size, marks, at) {
+            Found::At { value, next } => {
+                show(value);
+                at = next;
+            }
+            Found::End => {
+                at = 262144;
+            }
+        }
+    }
+}
+
+// The listing of n under a budget: its status and its entries.
+fn listing(n: i64, budget: u64) {
+    let l = divisors::integer_factors(n, budget);
+    let outcome = l.outcome;
+    let marks = l.marks;
+    io::write_all(STDOUT_FILENO, b"listing of");
+    show(n);
+    io::write_all(STDOUT_FILENO, b", budget ");
+    io::print_decimal(STDOUT_FILENO, budget);
+    io::write_all(STDOUT_FILENO, b": status ");
+    io::print_decimal(STDOUT_FILENO, status(outcome));
+    io::write_all(STDOUT_FILENO, b",");
+    entries(l.size, &marks);
+    io::write_all(STDOUT_FILENO, b"\n");
+}
+
+fn main() {
+    listing(8, 2);
+    listing(9, 2);
+    listing(9, 3);
+    listing(-12, 65536);
+    listing(0, 1);
+}
