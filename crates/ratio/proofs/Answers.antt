@@ -216,7 +216,7 @@ cmp-only a b e =
     (fraction-of a (p .0), fraction-of b (q .0))
 
 -- for two fractions the model is the order of the textbook's cross products
-cmp-is : (a b : Ratio) → Fraction a → Fraction b → cmpOf a b ≡ orderOf (rat a .num *ℤ pos (rat b .den)) (rat b .num *ℤ pos (rat a .den))
+pub cmp-is : (a b : Ratio) → Fraction a → Fraction b → cmpOf a b ≡ orderOf (rat a .num *ℤ pos (rat b .den)) (rat b .num *ℤ pos (rat a .den))
 unfolding cmpOf
 cmp-is a b fa fb = rw (fraction-is a fa, fraction-is b fb) (ap₂ orderOf (crossed a b fa fb) (crossed b a fb fa))
 

@@ -7,25 +7,29 @@ use native.Mathlib.Omega.{arith}
 use native.Mathlib.Nat.{eq-one-of-dvd-one}
 use borrow.Author.Tests.{eqb-true}
 use lib.IntN.{ℤ, pos, negsuc, negℤ, natAbs, _+ℤ_, _-ℤ_, _*ℤ_}
-use lib.Signed.{_<ℤ_}
+use lib.Dec.{T}
+use lib.Signed.{ltZ, _<ℤ_, <ℤ-irrefl}
 use Rattle.algebra.specs.Rational.{Rat, Same, addQ, subQ, mulQ, negQ, over}
+use Rattle.algebra.specs.Rational as Q
+use Rattle.algebra.proofs.WholeOrder.{lt-true, <ℤ-trans}
 use Rattle.algebra.proofs.Rational.{ℚ, _+ℚ_, _*ℚ_, -ℚ_, 0ℚ, 1ℚ, invℚ, val, val-same, same-val, val-add, val-sub, val-mul, val-neg, val-inv, val-zero, val-one, val-over, over-nil}
 use Rattle.algebra.proofs.Whole.{ℤ-domain}
 use Rattle.algebra.proofs.Fraction.{fr-nil}
 use Rattle.algebra.proofs.Lowest.{LowestTerms, lowest-unique}
 use Rattle.ratio.specs.Range.{within}
 use Rattle.ratio.specs.Refusal.{statusOf, ratioOf, zeroR}
-use Rattle.ratio.specs.Step.{isNil, need, reduced, lowest, newOf, addOf, subOf, mulOf, negOf, invOf}
+use Rattle.ratio.specs.Step.{isNil, need, reduced, lowest, newOf, addOf, subOf, mulOf, negOf, invOf, orderOf, cmpOf}
 use Rattle.ratio.specs.Promise.{rat, Fraction, Lowest, AddFits, SubFits, MulFits, InvFits, Answers}
 use Rattle.ratio.specs.declared.Ratio.{Ratio}
 use Rattle.ratio.specs.declared.Reason.the-variants.{CoeffOverflow, DivByZero}
 use Rattle.ratio.specs.declared.Step.{Step}
 use Rattle.ratio.specs.declared.Step.the-variants.{Done, Refused}
+use Rattle.ratio.specs.declared.Order.the-variants.{Less, Equal, Greater}
 use Rattle.ratio.proofs.Fractions.{fraction-is, some-nil, nil-some, no-size, neg-fraction}
 use Rattle.ratio.proofs.Words.{abs-neg}
 use Rattle.ratio.proofs.Lowest.{over-neg}
 use Rattle.ratio.proofs.Models.{new-yes, neg-yes, inv-yes, inv-nil}
-use Rattle.ratio.proofs.Answers.{add-answers, sub-answers, mul-answers, neg-answers, inv-answers, new-answers}
+use Rattle.ratio.proofs.Answers.{add-answers, sub-answers, mul-answers, neg-answers, inv-answers, new-answers, cmp-is}
 
 -- ---- an answer is the textbook's rational, in lowest terms
 
@@ -206,3 +210,32 @@ neg-kept a l =
     let e = neg-is a (l .fraction) in
     let r : Ratio = record { num = negℤ (a .num); den = a .den } in
     e ∙ ap Done (value-equal _ r (neg-done a _ e .1) (neg-lowest a l) (neg-value a _ e ∙ sym (val-same (rat r) (negQ (rat a)) (over-neg (a .num) (a .den) (l .fraction .den-some)) ∙ val-neg (rat a))))
+
+-- ---- the order of two fractions is found
+
+tested : (t : Bool) → T t → t ≡ true
+tested true h = refl
+tested false h = absurd h
+
+not-less : (x y : ℤ) (t : Bool) → ltZ x y ≡ t → (x <ℤ y → ⊥) → t ≡ false
+not-less x y true e h = absurd (h (lt-true x y e))
+not-less x y false e h = refl
+
+order-less : (x y : ℤ) → x <ℤ y → orderOf x y ≡ Less
+order-less x y h = rw (tested (ltZ x y) (h .lt))
+
+order-more : (x y : ℤ) → y <ℤ x → orderOf x y ≡ Greater
+order-more x y h = rw (not-less x y (ltZ x y) refl (λ k. <ℤ-irrefl (<ℤ-trans x y x k h)), tested (ltZ y x) (h .lt))
+
+order-same : (x y : ℤ) → x ≡ y → orderOf x y ≡ Equal
+order-same x y e = rw (e, not-less y y (ltZ y y) refl (λ k. <ℤ-irrefl k))
+
+module _ (a b : Ratio) (fa : Fraction a) (fb : Fraction b) where
+  pub cmp-less : Q.Less (rat a) (rat b) → cmpOf a b ≡ Less
+  cmp-less h = cmp-is a b fa fb ∙ order-less _ _ h
+
+  pub cmp-equal : Same (rat a) (rat b) → cmpOf a b ≡ Equal
+  cmp-equal h = cmp-is a b fa fb ∙ order-same _ _ h
+
+  pub cmp-greater : Q.Less (rat b) (rat a) → cmpOf a b ≡ Greater
+  cmp-greater h = cmp-is a b fa fb ∙ order-more _ _ h

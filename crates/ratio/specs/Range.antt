@@ -1,5 +1,4 @@
 -- Document 01, number range: numerators and denominators lie within ±(2^63 − 1); −2^63 never occurs.
-use mathlib.Core.Path.{_≡_}
 use mathlib.Core.Bool.{Bool}
 use Prim.Native.Nat.{ℕ, _≤_}
 use lib.Dec.{leb}

@@ -4,7 +4,7 @@ ghost use mathlib.Core.Path.{_≡_};
 ghost use mathlib.Core.Bool.{not};
 ghost use lib.Dec.{eqb};
 ghost use Prim.Native.Nat.{_*_, _≤_};
-ghost use lib.IntN.{pos, natAbs, negℤ, _+ℤ_, _*ℤ_};
+ghost use lib.IntN.{pos, natAbs, _+ℤ_, _*ℤ_};
 ghost use lib.Signed.{ltZ};
 ghost use Rattle.algebra.specs.Rational.{addQ, subQ, mulQ, negQ, over};
 ghost use Rattle.ratio.specs.Refusal.{numberOf};
