@@ -1,12 +1,9 @@
-use Prim.Native.Nat.{_≤_, _-_}
+-- `figures::entries` ends: each place found lies behind the one before.
+use Prim.Native.Nat.{_≤_, _<_, _-_}
 use native.Mathlib.Omega.{arith}
 use borrow.Author.Needs.{needs}
 use Rattle.figures.proofs.entries.Statement.{statement}
 use Rattle.figures.proofs.entries.Tie as tie
-use Rattle.figures.proofs.entries.Reads as reads
-use Rattle.figures.proofs.entries.Lts as lts
-use Rattle.divisors.proofs.next_factor.Reads as next-factor-reads
-use Rattle.figures.proofs.show.Reads as show-reads
 
 abbrev Inv-loop : tie.InvT-loop
 Inv-loop size marks at₀ at = at ≤ 262144
@@ -15,34 +12,38 @@ abbrev μ-loop : tie.MeasureT-loop
 μ-loop size marks at₀ at = 262144 - at
 
 loop-holds : tie.Need-loop-holds Inv-loop μ-loop
-loop-holds c = ?
+loop-holds c = omega arith
 
 next-factor-requires : tie.Need-next-factor-requires Inv-loop μ-loop
-next-factor-requires c κs = ?
+next-factor-requires c κs = search needs
 
 enum-known-value : tie.Need-enum-known-value Inv-loop μ-loop
-enum-known-value c = ?
+enum-known-value c = search needs
 
 show-requires : tie.Need-show-requires Inv-loop μ-loop
-show-requires c κs = ?
+show-requires c κs = search needs
+
+-- the walk goes forward
+forward : (c : tie.After-show Inv-loop μ-loop) → (c .before .before .before .before .before .before .loop .at < c .before .before .value .given .0 .1 .0) × (c .before .before .value .given .0 .1 .0 ≤ 262144)
+forward c = c .before .before .before .before .next-factor .ensures .1 .forward _ _ (c .before .before .value .given .1)
 
 loop-less : tie.Need-loop-less Inv-loop μ-loop
-loop-less c = ?
+loop-less c = let f = forward c in omega arith
 
 loop-again : tie.Need-loop-again Inv-loop μ-loop
-loop-again c = ?
+loop-again c = forward c .1
 
 enum-told : tie.Need-enum-told Inv-loop μ-loop
-enum-told c = ?
+enum-told c = search needs
 
 loop-less-2 : tie.Need-loop-less-2 Inv-loop μ-loop
-loop-less-2 c = ?
+loop-less-2 c = omega arith
 
 loop-again-2 : tie.Need-loop-again-2 Inv-loop μ-loop
-loop-again-2 c = ?
+loop-again-2 c = omega arith
 
 returns : tie.Need-returns Inv-loop μ-loop
-returns c = ?
+returns c = search needs
 
 pub entries-spec : {M : Type 1} → statement M
 entries-spec =
