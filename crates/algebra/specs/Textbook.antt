@@ -1,6 +1,6 @@
 -- The textbook's words for polynomials over the rationals (document 01, opening), as contracts cite them: degree, monic, divides, division, gcd, root.
-use mathlib.Core.List.{List, [], _∷_}
-use Prim.Native.Nat.{ℕ, suc, _≤_, _<_}
+use mathlib.Core.List.{List}
+use Prim.Native.Nat.{ℕ, suc, _≤_}
 use Rattle.algebra.specs.Rational.{Rat, Same, zeroQ, oneQ}
 use Rattle.algebra.specs.Polynomial.{coeff, Equal, sum, product, value}
 
