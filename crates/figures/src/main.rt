@@ -2,6 +2,8 @@
 use divisors::Found;
 use libc::STDOUT_FILENO;
 use ratio::Outcome;
+use ratio::Ratio;
+use ratio::Step;
 
 fn status(o: Outcome) -> u64 {
     match o {
@@ -51,10 +53,32 @@ fn listing(n: i64, budget: u64) {
     io::write_all(STDOUT_FILENO, b"\n");
 }
 
+// The value of x at a whole number. The original makes one power more than it uses, so that the square has to fit too.
+fn value_of_x(at: i64) {
+    let nums: [i64; 2] = [0, 1];
+    let dens: [i64; 2] = [1, 1];
+    let x = poly::from_parts(&nums, &dens);
+    io::write_all(STDOUT_FILENO, b"x at");
+    show(at);
+    io::write_all(STDOUT_FILENO, b": status ");
+    match poly::eval(x.poly, Ratio { num: at, den: 1 }) {
+        Step::Done(v) => {
+            io::write_all(STDOUT_FILENO, b"0,");
+            show(v.num);
+        }
+        Step::Refused(why) => {
+            io::print_decimal(STDOUT_FILENO, ratio::number(why));
+        }
+    }
+    io::write_all(STDOUT_FILENO, b"\n");
+}
+
 fn main() {
     listing(8, 2);
     listing(9, 2);
     listing(9, 3);
     listing(-12, 65536);
     listing(0, 1);
+    value_of_x(3037000499);
+    value_of_x(3037000500);
 }

@@ -1,0 +1,9 @@
+pub mod Doors
+pub mod Divisions
+pub mod Gcds
+pub mod SquareFrees
+pub mod Resultants
+pub mod Discriminants
+pub mod Quotes
+pub mod Shut
+pub mod QuoteCases

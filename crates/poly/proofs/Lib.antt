@@ -1,0 +1,6 @@
+pub mod Canonical
+pub mod Doors
+pub mod Powers
+pub mod Parts
+pub mod Unit
+pub mod Gives

@@ -1,0 +1,4 @@
+pub mod Door
+pub mod Parts
+pub mod Operations
+pub mod Promise
