@@ -74,11 +74,11 @@ module _ (n m k : ℕ) where
   pub both-within : n ≤ 31 → m ≤ 31 → Steps k ≡ quoteTwo n m k
   both-within h g = rw (le-leb n 31 h, le-leb m 31 g)
 
-module _ (n : ℕ) where
-  pub one-over : 31 < n → Refused TooLong ≡ discriminantQuote n
+module _ (n k : ℕ) where
+  pub one-over : 31 < n → Refused TooLong ≡ quoteIf (leb n 31) k
   one-over h = rw (lt-leb n 31 h)
 
-  pub one-within : n ≤ 31 → Steps (discriminantPrice n) ≡ discriminantQuote n
+  pub one-within : n ≤ 31 → Steps k ≡ quoteIf (leb n 31) k
   one-within h = rw (le-leb n 31 h)
 
 pub constant-quote : (n : ℕ) → n ≡ 0 → Steps 0 ≡ discriminantQuote n

@@ -11,15 +11,16 @@ use Rattle.terms.specs.declared.Poly.{Poly}
 use Rattle.poly.specs.declared.Gate.the-variants.{Open}
 use Rattle.poly.specs.Door.{doorOf}
 use Rattle.poly.specs.Promise.{reading}
-use Rattle.remainders.specs.Price.{divisionPrice, gcdPrice, resultantPrice, discriminantPrice}
+use Rattle.remainders.specs.Price.{divisionPrice, gcdPrice, squareFreePrice, resultantPrice, discriminantPrice}
 use Rattle.euclid.specs.declared.Price.{Price}
 use Rattle.euclid.specs.declared.Price.the-variants.{Steps, Refused}
-use Rattle.euclid.specs.Answer.{divRemOf, gcdFor, resultantFor, discriminantFor}
+use Rattle.euclid.specs.Answer.{divRemOf, gcdFor, squareFreeFor, resultantFor, discriminantFor}
 use Rattle.euclid.specs.Promise.{Entered, Quotes, QuotesOne}
-use Rattle.euclid.specs.Quote.{quoteIf, divisionQuote, gcdQuote, resultantQuote, discriminantQuote}
+use Rattle.euclid.specs.Quote.{quoteIf, divisionQuote, gcdQuote, squareFreeQuote, resultantQuote, discriminantQuote}
 use Rattle.euclid.proofs.Doors.{degree-few}
 use Rattle.euclid.proofs.Divisions.{division-promise}
 use Rattle.euclid.proofs.Gcds.{gcd-promise}
+use Rattle.euclid.proofs.SquareFrees.{square-free-promise}
 use Rattle.euclid.proofs.Resultants.{resultant-promise}
 use Rattle.euclid.proofs.Discriminants.{discriminant-promise}
 
@@ -44,6 +45,9 @@ module _ (a b : Poly) (n m k : ℕ) (da : HasDegree (reading a) n) (db : HasDegr
 
 discriminant-quoted : (f : Poly) (n k : ℕ) → HasDegree (reading f) n → discriminantQuote n ≡ Steps k → discriminantFor f .steps ≤ k
 discriminant-quoted f n k d e = within-quote (leb n 31) (discriminantPrice n) k _ e (discriminant-promise f .price n d)
+
+square-free-quoted : (f : Poly) (n k : ℕ) → HasDegree (reading f) n → squareFreeQuote n ≡ Steps k → squareFreeFor f .steps ≤ k
+square-free-quoted f n k d e = within-quote (leb n 31) (squareFreePrice n) k _ e (square-free-promise f .price n d)
 
 -- ---- what came through the door has a quote
 
@@ -93,5 +97,14 @@ discriminant-quotes n r e = (
   record {
     bounds = λ f d k h. discriminant-quoted f n k d (sym e ∙ h);
     quoted = λ f i d why h. quote-open (leb n 31) (discriminantPrice n) why (one-open f n i d) (sym e ∙ h);
+  },
+)
+
+pub square-free-quotes : (n : ℕ) (r : Price) → r ≡ squareFreeQuote n → (r ≡ squareFreeQuote n) × QuotesOne n (λ f. squareFreeFor f .steps) r
+square-free-quotes n r e = (
+  e,
+  record {
+    bounds = λ f d k h. square-free-quoted f n k d (sym e ∙ h);
+    quoted = λ f i d why h. quote-open (leb n 31) (squareFreePrice n) why (one-open f n i d) (sym e ∙ h);
   },
 )

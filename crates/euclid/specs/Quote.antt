@@ -3,7 +3,7 @@ use mathlib.Core.Bool.{Bool, true, false, _&&_}
 use Prim.Native.Nat.{ℕ}
 use lib.Dec.{leb}
 use Rattle.ratio.specs.declared.Reason.the-variants.{TooLong}
-use Rattle.remainders.specs.Price.{divisionPrice, gcdPrice, resultantPrice, discriminantPrice}
+use Rattle.remainders.specs.Price.{divisionPrice, gcdPrice, squareFreePrice, resultantPrice, discriminantPrice}
 use Rattle.euclid.specs.declared.Price.{Price}
 use Rattle.euclid.specs.declared.Price.the-variants.{Steps, Refused}
 
@@ -19,6 +19,9 @@ divisionQuote n m = quoteTwo n m (divisionPrice n m)
 
 abbrev pub gcdQuote : ℕ → ℕ → Price
 gcdQuote n m = quoteTwo n m (gcdPrice n m)
+
+abbrev pub squareFreeQuote : ℕ → Price
+squareFreeQuote n = quoteIf (leb n 31) (squareFreePrice n)
 
 abbrev pub resultantQuote : ℕ → ℕ → Price
 resultantQuote n m = quoteTwo n m (resultantPrice n m)

@@ -11,7 +11,7 @@ ghost use mathlib.Core.Path.{_≡_};
 ghost use Prim.Native.Nat.{_≤_};
 ghost use Rattle.remainders.specs.Price.{divisionPrice, orderedPrice, resultantPrice};
 ghost use Rattle.euclid.specs.Answer.{divRemOf, gcdFor, squareFreeFor, noWhole, wholeFrom, resultantFor, discriminantFor};
-ghost use Rattle.euclid.specs.Quote.{divisionQuote, gcdQuote, resultantQuote, discriminantQuote};
+ghost use Rattle.euclid.specs.Quote.{divisionQuote, gcdQuote, squareFreeQuote, resultantQuote, discriminantQuote};
 ghost use Rattle.euclid.specs.Promise.{DivisionPromise, GcdPromise, SquareFreePromise, ResultantPromise, DiscriminantPromise, Quotes, QuotesOne};
 
 // A whole number that was worked out.
@@ -180,6 +180,18 @@ pub fn gcd_price(n: u64, m: u64) -> Price
         Price::Refused(Reason::TooLong)
     } else {
         Price::Steps(2 * n * m + 3 * n + 3 * m + 4)
+    }
+}
+
+// The most that a square-free part of degree n takes.
+pub fn square_free_price(n: u64) -> Price
+    ensures is { λ r. ⌜ r ≡ squareFreeQuote n ⌝ }
+    ensures promise { λ r. ⌜ QuotesOne n (λ f. squareFreeFor f .steps) r ⌝ }
+{
+    if n > 31 {
+        Price::Refused(Reason::TooLong)
+    } else {
+        Price::Steps(3 * n * n + 9 * n + 4)
     }
 }
 
