@@ -33,7 +33,7 @@ use Rattle.remainders.proofs.PriceResultant.{discriminant-price}
 use Rattle.euclid.specs.declared.Whole.{Whole}
 use Rattle.euclid.specs.Answer.{noWhole, wholeOf, discriminantFor}
 use Rattle.euclid.specs.Promise.{CommonFactor, DiscriminantPromise, whole-only, Written-down, discriminantRun}
-use Rattle.euclid.proofs.Doors.{never-done, enter-whole-keeps, zero-nil, degree-length, in-degrees, fractions, written-down}
+use Rattle.euclid.proofs.Doors.{never-done, entered-keeps, zero-nil, degree-length, in-degrees, fractions, written-down}
 use Rattle.euclid.proofs.Resultants.{Vanishes, whole-steps, whole-vanishes, whole-back, whole-answers, common-same}
 
 -- the same of a list that is known to be no constant
@@ -98,7 +98,7 @@ module _ (f : Poly) where
     }
 
 pub discriminant-promise : (f : Poly) → DiscriminantPromise f (discriminantFor f)
-discriminant-promise f = enter-whole-keeps (DiscriminantPromise f) (doorOf f) _ (λ e. discriminant-open f (opened f e)) (refused-discriminant f)
+discriminant-promise f = entered-keeps (λ why. noWhole why 0) (DiscriminantPromise f) (doorOf f) _ (λ e. discriminant-open f (opened f e)) (refused-discriminant f)
 
 pub discriminant-both : (f : Poly) (r : Whole) → r ≡ discriminantFor f → (r ≡ discriminantFor f) × DiscriminantPromise f r
 discriminant-both f r e = (e, subst (DiscriminantPromise f) (sym e) (discriminant-promise f))

@@ -12,7 +12,6 @@ use Rattle.ratio.specs.declared.Reason.the-variants.{CoeffOverflow, DivByZero}
 use Rattle.terms.specs.declared.Poly.{Poly}
 use Rattle.terms.specs.Machine.{Ran, fine, over, plain}
 use Rattle.terms.specs.Poly.{termsOf}
-use Rattle.terms.proofs.MeaningAnswer.{terms-of}
 use Rattle.terms.proofs.StepsCount.{stepsOf}
 use Rattle.poly.specs.declared.Gate.the-variants.{Open}
 use Rattle.poly.specs.Door.{doorOf, both}
@@ -27,7 +26,8 @@ use Rattle.remainders.proofs.MeaningDivision.{Divided, divided-means}
 use Rattle.remainders.proofs.PriceDivide.{division-exact, division-price, rest-below}
 use Rattle.euclid.specs.Answer.{divRemOf}
 use Rattle.euclid.specs.Promise.{DivisionPromise, every, Written-down, divisionRun}
-use Rattle.euclid.proofs.Doors.{never-done, enter-division-keeps, entered-open, open-entered, nil-zero, degree-length, in-degrees, fractions, Back, fine-back, over-back, written-down}
+use Rattle.euclid.proofs.Doors.{never-done, entered-keeps, entered-open, both-opened, nil-zero, degree-length, in-degrees, fractions, Back, fine-back, over-back, written-down}
+use Rattle.terms.proofs.Lists.{terms-of-poly}
 
 -- the number of steps in degrees
 exact-degrees : (k x y n m : ℕ) → x ≡ suc n → y ≡ suc m → k ≡ 0 + (x - y + 1) * (2 * (y - 1) + 3) → k ≡ (n - m + 1) * (2 * m + 3)
@@ -45,7 +45,7 @@ abbrev numbers : Split Ratio → List Ratio
 numbers s = s .quotient ++ s .rest
 
 division-back : (r : Ran ℕ (Split Ratio)) → Back every numbers r (outcomeStatus (divisionOf r .outcome)) (termsOf (divisionOf r .quotient) ++ termsOf (divisionOf r .rest))
-division-back (fine k s) = fine-back every numbers k s 0 _ (λ u. rw (terms-of (s .quotient), terms-of (s .rest))) (λ a. refl)
+division-back (fine k s) = fine-back every numbers k s 0 _ (λ u. rw (terms-of-poly (s .quotient), terms-of-poly (s .rest))) (λ a. refl)
 division-back (over k) = over-back every numbers k _
 
 module _ (a b : Poly) where
@@ -81,7 +81,7 @@ module _ (a b : Poly) where
     division-means k s e = divided-means A B (oa .canonical) (ob .canonical) (λ z. absurd (omega (arith, ap length z))) 0 k s e
 
     division-handed : (r : Ran ℕ (Split Ratio)) → run ≡ r → outcomeStatus (divisionOf r .outcome) ≡ 0 → IsDivision (reading a) (reading b) (reading (divisionOf r .quotient)) (reading (divisionOf r .rest))
-    division-handed (fine k s) e u = rw (terms-of (s .quotient), terms-of (s .rest)) (division-means k s e .is)
+    division-handed (fine k s) e u = rw (terms-of-poly (s .quotient), terms-of-poly (s .rest)) (division-means k s e .is)
     division-handed (over k) e u = absurd (never-done CoeffOverflow u)
 
     division-canonical : (r : Ran ℕ (Split Ratio)) → run ≡ r → (doorOf (divisionOf r .quotient) ≡ Open) × (doorOf (divisionOf r .rest) ≡ Open)
@@ -125,8 +125,8 @@ module _ (a b : Poly) where
 
 pub division-promise : (a b : Poly) → DivisionPromise a b (divRemOf a b)
 division-promise a b =
-    enter-division-keeps (DivisionPromise a b) (both (doorOf a) (doorOf b)) _
-    (λ e. let (oa, ob) = open-entered a b e in division-open a b oa ob (termsOf b) refl)
+    entered-keeps (λ why. noDivision why 0) (DivisionPromise a b) (both (doorOf a) (doorOf b)) _
+    (λ e. let (oa, ob) = both-opened a b e in division-open a b oa ob (termsOf b) refl)
     (refused-division a b)
 
 pub division-both : (a b : Poly) (r : Division) → r ≡ divRemOf a b → (r ≡ divRemOf a b) × DivisionPromise a b r

@@ -17,7 +17,7 @@ use Rattle.ratio.specs.declared.Reason.{Reason}
 use Rattle.ratio.specs.declared.Reason.the-variants.{CoeffOverflow, TooLong, BadInput}
 use Rattle.terms.specs.declared.Answer.{Answer}
 use Rattle.terms.specs.declared.Poly.{Poly}
-use Rattle.terms.specs.Answer.{refusedWith, answerOf}
+use Rattle.terms.specs.Answer.{answerOf}
 use Rattle.terms.specs.Machine.{Ran, fine, over}
 use Rattle.terms.specs.Meaning.{rats}
 use Rattle.terms.specs.Poly.{termsOf}
@@ -28,16 +28,12 @@ use Rattle.terms.proofs.MeaningStep.{same-answer}
 use Rattle.terms.proofs.StepsCount.{stepsOf}
 use Rattle.poly.specs.declared.Gate.{Gate}
 use Rattle.poly.specs.declared.Gate.the-variants.{Open, Long, Bad}
-use Rattle.poly.specs.Door.{doorOf, both, enter}
+use Rattle.poly.specs.Door.{doorOf, both, entered}
 use Rattle.poly.specs.Promise.{reading}
 use Rattle.poly.proofs.Canonical.{Opened, opened, both-open, open-poly, open-nil}
 use Rattle.poly.proofs.Gives.{outcome-done}
-use Rattle.remainders.specs.declared.Division.{Division}
-use Rattle.remainders.specs.Answer.{noDivision}
 use Rattle.remainders.specs.Chain.{Wire, Written}
 use Rattle.remainders.proofs.ChainWritten.{forgotten, Ended, Tells, Fractions}
-use Rattle.euclid.specs.declared.Whole.{Whole}
-use Rattle.euclid.specs.Answer.{noWhole, enterDivision, enterWhole}
 use Rattle.euclid.specs.Promise.{Entered, Faithfully, every, Written-down}
 
 -- ---- a refusal
@@ -57,26 +53,16 @@ shut-bad : Bad ≡ Open → ⊥
 shut-bad e = let z : _≡_ {A = ℕ} 0 1 = cc in omega arith
 
 -- what holds of the work behind an open door and of every refusal at a shut one holds
-pub enter-keeps : (P : Answer → Type 0) (d : Gate) (r : Answer) → (d ≡ Open → P r) → ((d ≡ Open → ⊥) → (why : Reason) → P (refusedWith why 0)) → P (enter d r)
-enter-keeps P Open r h f = h refl
-enter-keeps P Long r h f = f shut-long TooLong
-enter-keeps P Bad r h f = f shut-bad BadInput
-
-pub enter-division-keeps : (P : Division → Type 0) (d : Gate) (r : Division) → (d ≡ Open → P r) → ((d ≡ Open → ⊥) → (why : Reason) → P (noDivision why 0)) → P (enterDivision d r)
-enter-division-keeps P Open r h f = h refl
-enter-division-keeps P Long r h f = f shut-long TooLong
-enter-division-keeps P Bad r h f = f shut-bad BadInput
-
-pub enter-whole-keeps : (P : Whole → Type 0) (d : Gate) (r : Whole) → (d ≡ Open → P r) → ((d ≡ Open → ⊥) → (why : Reason) → P (noWhole why 0)) → P (enterWhole d r)
-enter-whole-keeps P Open r h f = h refl
-enter-whole-keeps P Long r h f = f shut-long TooLong
-enter-whole-keeps P Bad r h f = f shut-bad BadInput
+pub entered-keeps : {X : Type 0} (refuse : Reason → X) (P : X → Type 0) (d : Gate) (r : X) → (d ≡ Open → P r) → ((d ≡ Open → ⊥) → (why : Reason) → P (refuse why)) → P (entered refuse d r)
+entered-keeps refuse P Open r h f = h refl
+entered-keeps refuse P Long r h f = f shut-long TooLong
+entered-keeps refuse P Bad r h f = f shut-bad BadInput
 
 pub entered-open : (a b : Poly) → Entered a b → both (doorOf a) (doorOf b) ≡ Open
 entered-open a b e = ap₂ both (e .left) (e .right)
 
-pub open-entered : (a b : Poly) → both (doorOf a) (doorOf b) ≡ Open → Opened a × Opened b
-open-entered a b e =
+pub both-opened : (a b : Poly) → both (doorOf a) (doorOf b) ≡ Open → Opened a × Opened b
+both-opened a b e =
     let (p, q) = both-open (doorOf a) (doorOf b) e in
     (opened a p, opened b q)
 

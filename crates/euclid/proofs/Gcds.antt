@@ -30,7 +30,7 @@ use Rattle.remainders.proofs.MeaningGcd.{gcd-means, gcd-canonical, gcd-of-zeros
 use Rattle.remainders.proofs.PriceGcd.{gcd-price, gcd-price-right-zero, gcd-price-left-zero}
 use Rattle.euclid.specs.Answer.{gcdFor}
 use Rattle.euclid.specs.Promise.{GcdPromise, every, Written-down, gcdRun}
-use Rattle.euclid.proofs.Doors.{never-done, enter-keeps, entered-open, open-entered, nil-zero, zero-nil, degree-length, in-degrees, divisor-short, answer-canonical, Handed, answer-handed, fractions, answer-back, written-down}
+use Rattle.euclid.proofs.Doors.{never-done, entered-keeps, entered-open, both-opened, nil-zero, zero-nil, degree-length, in-degrees, divisor-short, answer-canonical, Handed, answer-handed, fractions, answer-back, written-down}
 
 gcd-zeros : (a b : List Ratio) (k : ℕ) → a ≡ [] → b ≡ [] → gcdOf plain a b k ≡ fine k []
 gcd-zeros a b k p q = rw (p, q) (gcd-of-zeros k)
@@ -111,8 +111,8 @@ module _ (a b : Poly) where
 
 pub gcd-promise : (a b : Poly) → GcdPromise a b (gcdFor a b)
 gcd-promise a b =
-    enter-keeps (GcdPromise a b) (both (doorOf a) (doorOf b)) _
-    (λ e. let (oa, ob) = open-entered a b e in gcd-open a b oa ob)
+    entered-keeps (λ why. refusedWith why 0) (GcdPromise a b) (both (doorOf a) (doorOf b)) _
+    (λ e. let (oa, ob) = both-opened a b e in gcd-open a b oa ob)
     (refused-gcd a b)
 
 pub gcd-both : (a b : Poly) (r : Answer) → r ≡ gcdFor a b → (r ≡ gcdFor a b) × GcdPromise a b r

@@ -5,5 +5,5 @@ pub mod SquareFrees
 pub mod Resultants
 pub mod Discriminants
 pub mod Quotes
-pub mod Shut
+pub mod Wholes
 pub mod QuoteCases

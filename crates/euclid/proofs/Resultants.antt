@@ -37,7 +37,7 @@ use Rattle.remainders.proofs.PriceResultant.{resultant-price}
 use Rattle.euclid.specs.declared.Whole.{Whole}
 use Rattle.euclid.specs.Answer.{noWhole, wholeIf, wholeOf, resultantFor}
 use Rattle.euclid.specs.Promise.{CommonFactor, Answers, ResultantPromise, whole-only, Written-down, resultantRun}
-use Rattle.euclid.proofs.Doors.{never-done, enter-whole-keeps, entered-open, open-entered, nil-zero, zero-nil, degree-length, in-degrees, fractions, Back, fine-back, over-back, written-down}
+use Rattle.euclid.proofs.Doors.{never-done, entered-keeps, entered-open, both-opened, nil-zero, zero-nil, degree-length, in-degrees, fractions, Back, fine-back, over-back, written-down}
 
 -- ---- whole numbers
 
@@ -164,8 +164,8 @@ module _ (a b : Poly) where
 
 pub resultant-promise : (a b : Poly) → ResultantPromise a b (resultantFor a b)
 resultant-promise a b =
-    enter-whole-keeps (ResultantPromise a b) (both (doorOf a) (doorOf b)) _
-    (λ e. let (oa, ob) = open-entered a b e in resultant-open a b oa ob)
+    entered-keeps (λ why. noWhole why 0) (ResultantPromise a b) (both (doorOf a) (doorOf b)) _
+    (λ e. let (oa, ob) = both-opened a b e in resultant-open a b oa ob)
     (refused-resultant a b)
 
 pub resultant-both : (a b : Poly) (r : Whole) → r ≡ resultantFor a b → (r ≡ resultantFor a b) × ResultantPromise a b r

@@ -30,7 +30,7 @@ use Rattle.remainders.proofs.MeaningFree.{SquareFreePart, square-free-means}
 use Rattle.remainders.proofs.PriceSquareFree.{squareFree-price}
 use Rattle.euclid.specs.Answer.{squareFreeFor}
 use Rattle.euclid.specs.Promise.{SquareFreePromise, every, Written-down, squareFreeRun}
-use Rattle.euclid.proofs.Doors.{never-done, enter-keeps, nil-zero, degree-length, in-degrees, divisor-short, Handed, answer-handed, fractions, answer-back, written-down}
+use Rattle.euclid.proofs.Doors.{never-done, entered-keeps, nil-zero, degree-length, in-degrees, divisor-short, Handed, answer-handed, fractions, answer-back, written-down}
 
 -- a part that is answered is canonical and no longer than the polynomial
 part-short : (f : List Ratio) → Canonical f → length f ≤ 32 → (k k′ : ℕ) (p : List Ratio) → squareFree plain f k ≡ fine k′ p → Canonical p × (length p ≤ 32)
@@ -85,7 +85,7 @@ module _ (f : Poly) where
     }
 
 pub square-free-promise : (f : Poly) → SquareFreePromise f (squareFreeFor f)
-square-free-promise f = enter-keeps (SquareFreePromise f) (doorOf f) _ (λ e. part-open f (opened f e)) (refused-part f)
+square-free-promise f = entered-keeps (λ why. refusedWith why 0) (SquareFreePromise f) (doorOf f) _ (λ e. part-open f (opened f e)) (refused-part f)
 
 pub square-free-both : (f : Poly) (r : Answer) → r ≡ squareFreeFor f → (r ≡ squareFreeFor f) × SquareFreePromise f r
 square-free-both f r e = (e, subst (SquareFreePromise f) (sym e) (square-free-promise f))

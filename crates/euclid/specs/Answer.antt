@@ -7,26 +7,23 @@ use Rattle.ratio.specs.declared.Outcome.{Outcome}
 use Rattle.ratio.specs.declared.Outcome.the-variants as O
 use Rattle.ratio.specs.declared.Ratio.{Ratio}
 use Rattle.ratio.specs.declared.Reason.{Reason}
-use Rattle.ratio.specs.declared.Reason.the-variants.{CoeffOverflow, TooLong, BadInput}
+use Rattle.ratio.specs.declared.Reason.the-variants.{CoeffOverflow}
 use Rattle.terms.specs.declared.Poly.{Poly}
 use Rattle.terms.specs.declared.Answer.{Answer}
 use Rattle.terms.specs.Poly.{termsOf}
-use Rattle.terms.specs.Machine.{Ran, fine, over, plain}
+use Rattle.terms.specs.Machine.{Ran, plain}
 use Rattle.terms.specs.Answer.{answerOf}
 use Rattle.poly.specs.declared.Gate.{Gate}
-use Rattle.poly.specs.declared.Gate.the-variants.{Open, Long, Bad}
-use Rattle.poly.specs.Door.{doorOf, both, enter}
+use Rattle.poly.specs.Door.{doorOf, both, entered, enter}
 use Rattle.remainders.specs.declared.Division.{Division}
 use Rattle.remainders.specs.declared.Number.{Number}
 use Rattle.remainders.specs.Gcd.{gcdOf, squareFree}
 use Rattle.remainders.specs.Resultant.{resultantOf, discriminantOf}
-use Rattle.remainders.specs.Answer.{noDivision, dividedOf}
+use Rattle.remainders.specs.Answer.{noDivision, dividedOf, numberOf}
 use Rattle.euclid.specs.declared.Whole.{Whole}
 
 abbrev pub enterDivision : Gate → Division → Division
-enterDivision Open r = r
-enterDivision Long r = noDivision TooLong 0
-enterDivision Bad r = noDivision BadInput 0
+enterDivision d r = entered (λ why. noDivision why 0) d r
 
 abbrev pub divRemOf : Poly → Poly → Division
 divRemOf a b = enterDivision (both (doorOf a) (doorOf b)) (dividedOf (termsOf a) (termsOf b))
@@ -45,12 +42,7 @@ abbrev pub wholeIf : Bool → ℤ → ℕ → Whole
 wholeIf true n k = record { outcome = O.Done; value = n; steps = k }
 wholeIf false n k = noWhole CoeffOverflow k
 
--- a result that is no whole number is 2, and the whole chain counts
-abbrev pub wholeOf : Ran ℕ Ratio → Whole
-wholeOf (fine k r) = wholeIf (eqb (natAbs (r .den)) 1) (r .num) k
-wholeOf (over k) = noWhole CoeffOverflow k
-
--- the same of a number that was worked out
+-- a number that was worked out and is no whole number is 2, and the whole chain counts
 abbrev pub wholeFromIf : Outcome → Ratio → ℕ → Whole
 wholeFromIf O.Done r k = wholeIf (eqb (natAbs (r .den)) 1) (r .num) k
 wholeFromIf (O.Refused why) r k = noWhole why k
@@ -58,10 +50,11 @@ wholeFromIf (O.Refused why) r k = noWhole why k
 abbrev pub wholeFrom : Number → Whole
 wholeFrom n = wholeFromIf (n .outcome) (n .value) (n .steps)
 
+abbrev pub wholeOf : Ran ℕ Ratio → Whole
+wholeOf r = wholeFrom (numberOf r)
+
 abbrev pub enterWhole : Gate → Whole → Whole
-enterWhole Open r = r
-enterWhole Long r = noWhole TooLong 0
-enterWhole Bad r = noWhole BadInput 0
+enterWhole d r = entered (λ why. noWhole why 0) d r
 
 abbrev pub resultantFor : Poly → Poly → Whole
 resultantFor a b = enterWhole (both (doorOf a) (doorOf b)) (wholeOf (resultantOf plain (termsOf a) (termsOf b) 0))

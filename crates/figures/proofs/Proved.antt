@@ -1,5 +1,5 @@
 -- Document 01's figures marked P hold: each by computing the definitions.
-use mathlib.Core.Path.{_≡_, refl}
+use mathlib.Core.Path.{refl}
 use Rattle.ratio.specs.Step.{addOf, subOf, mulOf, invOf, lowest}
 use Rattle.ratio.specs.Gcd as G
 use Rattle.terms.specs.Poly.{dropTop}

@@ -1,11 +1,10 @@
 -- Document 01's figures marked P, as one table about the definitions. proofs/Proved.antt proves it.
 use mathlib.Core.Path.{_≡_}
-use mathlib.Core.List.{List, [], _∷_}
+use mathlib.Core.List.{[], _∷_}
 use Prim.Native.Nat.{ℕ}
 use lib.IntN.{ℤ, pos, negsuc}
 use Rattle.ratio.specs.Refusal.{statusOf, outcomeStatus}
 use Rattle.ratio.specs.Step.{addOf}
-use Rattle.ratio.specs.declared.Outcome.the-variants.{Done}
 use Rattle.ratio.specs.declared.Ratio.{Ratio}
 use Rattle.terms.specs.declared.Poly.{Poly}
 use Rattle.terms.specs.Poly.{polyOf}

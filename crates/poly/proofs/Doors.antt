@@ -21,8 +21,8 @@ use Rattle.poly.specs.declared.Gate.{Gate}
 use Rattle.poly.specs.declared.Gate.the-variants.{Open, Long, Bad}
 use Rattle.poly.specs.declared.Exponent.the-variants as E
 use Rattle.poly.specs.declared.Truth.the-variants as T
-use Rattle.poly.specs.Door.{allLowest, allUnused, openIf, doorOf, enter, enterStep, reasonOf}
-use Rattle.poly.specs.Operations.{degreeFrom, truthFrom}
+use Rattle.poly.specs.Door.{allLowest, allUnused, openIf, doorOf, entered, enter, enterStep, reasonOf}
+use Rattle.poly.specs.Operations.{exponent, empty}
 use Rattle.poly.proofs.Gate as G
 
 -- ---- the tests of the door
@@ -47,77 +47,65 @@ module _ (p : Poly) where
 abbrev pub Shut : Gate → Type 0
 Shut d = OneOf (1 ∷ 2 ∷ []) (tagOf G.the-type d)
 
-shut-enter : (d : Gate) (r : Answer) → Shut d → refusedWith (reasonOf d) 0 ≡ enter d r
-shut-enter Open r (inl e) = absurd (omega arith)
-shut-enter Open r (inr e) = absurd (omega arith)
-shut-enter Long r s = refl
-shut-enter Bad r s = refl
-
-shut-enter-step : (d : Gate) (r : Step) → Shut d → S.Refused (reasonOf d) ≡ enterStep d r
-shut-enter-step Open r (inl e) = absurd (omega arith)
-shut-enter-step Open r (inr e) = absurd (omega arith)
-shut-enter-step Long r s = refl
-shut-enter-step Bad r s = refl
-
-shut-degree-from : (d : Gate) (l : List Ratio) → Shut d → E.Refused (reasonOf d) ≡ degreeFrom d l
-shut-degree-from Open l (inl e) = absurd (omega arith)
-shut-degree-from Open l (inr e) = absurd (omega arith)
-shut-degree-from Long l s = refl
-shut-degree-from Bad l s = refl
-
-shut-truth-from : (d : Gate) (l : List Ratio) → Shut d → T.Refused (reasonOf d) ≡ truthFrom d l
-shut-truth-from Open l (inl e) = absurd (omega arith)
-shut-truth-from Open l (inr e) = absurd (omega arith)
-shut-truth-from Long l s = refl
-shut-truth-from Bad l s = refl
+shut-refuses : {X : Type 0} (refuse : Reason → X) (d : Gate) (r : X) → Shut d → refuse (reasonOf d) ≡ entered refuse d r
+shut-refuses refuse Open r (inl e) = absurd (omega arith)
+shut-refuses refuse Open r (inr e) = absurd (omega arith)
+shut-refuses refuse Long r s = refl
+shut-refuses refuse Bad r s = refl
 
 -- the door found is the model's
 module _ (d m : Gate) (e : d ≡ m) (s : Shut d) (w : Reason) (f : w ≡ reasonOf d) where
+  pub shut-entered : {X : Type 0} (refuse : Reason → X) (r a : X) → a ≡ refuse w → a ≡ entered refuse m r
+  shut-entered refuse r a h = h ∙ ap refuse f ∙ shut-refuses refuse d r s ∙ ap (λ (g : Gate). entered refuse g r) e
+
   pub shut-answer : (r a : Answer) → a ≡ refusedWith w 0 → a ≡ enter m r
-  shut-answer r a h = h ∙ ap (λ (v : Reason). refusedWith v 0) f ∙ shut-enter d r s ∙ ap (λ (g : Gate). enter g r) e
+  shut-answer = shut-entered (λ why. refusedWith why 0)
 
   pub shut-step : (r : Step) → S.Refused w ≡ enterStep m r
-  shut-step r = ap S.Refused f ∙ shut-enter-step d r s ∙ ap (λ (g : Gate). enterStep g r) e
+  shut-step r = shut-entered S.Refused r (S.Refused w) refl
 
-  pub shut-degree : (l : List Ratio) → E.Refused w ≡ degreeFrom m l
-  shut-degree l = ap E.Refused f ∙ shut-degree-from d l s ∙ ap (λ (g : Gate). degreeFrom g l) e
+  pub shut-degree : (l : List Ratio) → E.Refused w ≡ entered E.Refused m (exponent l)
+  shut-degree l = shut-entered E.Refused (exponent l) (E.Refused w) refl
 
-  pub shut-truth : (l : List Ratio) → T.Refused w ≡ truthFrom m l
-  shut-truth l = ap T.Refused f ∙ shut-truth-from d l s ∙ ap (λ (g : Gate). truthFrom g l) e
+  pub shut-truth : (l : List Ratio) → T.Refused w ≡ entered T.Refused m (empty l)
+  shut-truth l = shut-entered T.Refused (empty l) (T.Refused w) refl
 
 -- ---- a door that is
 
+degree-nothing : (l : List Ratio) → length l ≡ 0 → E.Zero ≡ exponent l
+degree-nothing [] h = refl
+degree-nothing (a ∷ l) h = absurd (omega arith)
+
+degree-something : (l : List Ratio) (n : ℕ) → length l ≡ suc n → E.Is n ≡ exponent l
+degree-something [] n h = absurd (omega arith)
+degree-something (a ∷ l) n h = ap E.Is (omega arith)
+
+truth-yes : (l : List Ratio) → length l ≡ 0 → T.Yes ≡ empty l
+truth-yes [] h = refl
+truth-yes (a ∷ l) h = absurd (omega arith)
+
+truth-no : (l : List Ratio) → (length l ≡ 0 → ⊥) → T.No ≡ empty l
+truth-no [] h = absurd (h refl)
+truth-no (a ∷ l) h = refl
+
 module _ (d m : Gate) (e : d ≡ m) (o : d ≡ Open) where
+  pub open-entered : {X : Type 0} (refuse : Reason → X) (r a : X) → a ≡ r → a ≡ entered refuse m r
+  open-entered refuse r a h = h ∙ ap (λ (g : Gate). entered refuse g r) (sym o ∙ e)
+
   pub open-answer : (r a : Answer) → a ≡ r → a ≡ enter m r
-  open-answer r a h = h ∙ ap (λ (g : Gate). enter g r) (sym o ∙ e)
+  open-answer = open-entered (λ why. refusedWith why 0)
 
   pub open-step : (r a : Step) → a ≡ r → a ≡ enterStep m r
-  open-step r a h = h ∙ ap (λ (g : Gate). enterStep g r) (sym o ∙ e)
+  open-step = open-entered S.Refused
 
-  degree-nothing : (l : List Ratio) → length l ≡ 0 → E.Zero ≡ degreeFrom Open l
-  degree-nothing [] h = refl
-  degree-nothing (a ∷ l) h = absurd (omega arith)
+  pub open-nothing : (l : List Ratio) → length l ≡ 0 → E.Zero ≡ entered E.Refused m (exponent l)
+  open-nothing l h = open-entered E.Refused (exponent l) E.Zero (degree-nothing l h)
 
-  degree-something : (l : List Ratio) (n : ℕ) → length l ≡ suc n → E.Is n ≡ degreeFrom Open l
-  degree-something [] n h = absurd (omega arith)
-  degree-something (a ∷ l) n h = ap E.Is (omega arith)
+  pub open-degree : (l : List Ratio) (n : ℕ) → length l ≡ suc n → E.Is n ≡ entered E.Refused m (exponent l)
+  open-degree l n h = open-entered E.Refused (exponent l) (E.Is n) (degree-something l n h)
 
-  pub open-nothing : (l : List Ratio) → length l ≡ 0 → E.Zero ≡ degreeFrom m l
-  open-nothing l h = degree-nothing l h ∙ ap (λ (g : Gate). degreeFrom g l) (sym o ∙ e)
+  pub open-yes : (l : List Ratio) → length l ≡ 0 → T.Yes ≡ entered T.Refused m (empty l)
+  open-yes l h = open-entered T.Refused (empty l) T.Yes (truth-yes l h)
 
-  pub open-degree : (l : List Ratio) (n : ℕ) → length l ≡ suc n → E.Is n ≡ degreeFrom m l
-  open-degree l n h = degree-something l n h ∙ ap (λ (g : Gate). degreeFrom g l) (sym o ∙ e)
-
-  truth-yes : (l : List Ratio) → length l ≡ 0 → T.Yes ≡ truthFrom Open l
-  truth-yes [] h = refl
-  truth-yes (a ∷ l) h = absurd (omega arith)
-
-  truth-no : (l : List Ratio) → (length l ≡ 0 → ⊥) → T.No ≡ truthFrom Open l
-  truth-no [] h = absurd (h refl)
-  truth-no (a ∷ l) h = refl
-
-  pub open-yes : (l : List Ratio) → length l ≡ 0 → T.Yes ≡ truthFrom m l
-  open-yes l h = truth-yes l h ∙ ap (λ (g : Gate). truthFrom g l) (sym o ∙ e)
-
-  pub open-no : (l : List Ratio) → (length l ≡ 0 → ⊥) → T.No ≡ truthFrom m l
-  open-no l h = truth-no l h ∙ ap (λ (g : Gate). truthFrom g l) (sym o ∙ e)
+  pub open-no : (l : List Ratio) → (length l ≡ 0 → ⊥) → T.No ≡ entered T.Refused m (empty l)
+  open-no l h = open-entered T.Refused (empty l) T.No (truth-no l h)

@@ -19,7 +19,7 @@ use Rattle.algebra.proofs.Poly.{Poly-ring}
 use Rattle.algebra.proofs.Monomials.{X}
 use Rattle.algebra.proofs.Degree.{HasDeg, deg-unique, deg-not-nil}
 use Rattle.algebra.proofs.Lists.{poly, _*P_, poly-at, poly-empty, poly-equal, equal-poly, poly-product, poly-one, poly-shifted, equal-refl}
-use Rattle.algebra.proofs.ListWords.{zero-from, degree-to, degree-from}
+use Rattle.algebra.proofs.ListWords.{zero-to, zero-from, degree-to, degree-from}
 use Rattle.ratio.specs.Promise.{rat, Lowest}
 use Rattle.ratio.specs.Refusal.{numberOf, statusOf, ratioOf, outcomeStatus, zeroR}
 use Rattle.ratio.specs.Step.{isLowest}
@@ -42,22 +42,25 @@ use Rattle.terms.specs.Work.{zipped, scaled, derived, multiplied}
 use Rattle.terms.specs.Answer.{doneWith, refusedWith, answerOf, negatedOf, unlessLong, productOf, valueOf}
 use Rattle.terms.proofs.Long.{Long, each-long, zipped-long, scaled-long, derived-long, multiplied-long}
 use Rattle.terms.proofs.Meaning.{polyR, polyR-at}
-use Rattle.terms.proofs.MeaningAnswer.{terms-of, fine-hands, product-hands, value-done}
+use Rattle.terms.proofs.MeaningAnswer.{fine-hands, product-hands, value-done}
 use Rattle.terms.proofs.MeaningLowest.{AllLowest, none-lowest, cons-lowest, zipped-lowest, scaled-lowest, derived-lowest, negated-lowest, multiplied-lowest}
 use Rattle.terms.proofs.MeaningSum.{sum-means, difference-means, scaled-means, derived-means, negated-means}
-use Rattle.terms.proofs.MeaningTop.{trim-length, trim-nothing}
-use Rattle.terms.proofs.MeaningCanonical.{Canonical, trim-canonical, canonical-degree}
+use Rattle.terms.proofs.MeaningTop.{trim-nothing}
+use Rattle.terms.proofs.MeaningCanonical.{Canonical, trim-canonical, canonical-degree, canonical-nil}
 use Rattle.poly.specs.declared.Gate.{Gate}
 use Rattle.poly.specs.declared.Gate.the-variants.{Open, Long as TooMany, Bad}
+use Rattle.poly.specs.declared.Truth.{Truth}
+use Rattle.poly.specs.declared.Truth.the-variants as T
 use Rattle.poly.specs.declared.Exponent.{Exponent}
 use Rattle.poly.specs.declared.Exponent.the-variants as E
-use Rattle.poly.specs.Door.{doorOf, doorOfRatio, both, longIf, enter, enterStep, topIsSome, allLowest}
+use Rattle.poly.specs.Door.{doorOf, doorOfRatio, both, longIf, entered, enter, enterStep, topIsSome, allLowest}
 use Rattle.poly.specs.Parts.{paired, partsDoor, partsOf}
-use Rattle.poly.specs.Promise.{reading, variable, Gives, GivesValue, TellsDegree, TellsLead}
-use Rattle.poly.specs.Operations.{constantOf, monomialOf, degreeFrom, degreeOf, leadOf, addOf, subOf, mulOf, scaleOf, negOf, diffOf, evalOf, onDone, powered, powerFrom, powerDoor, powOf}
+use Rattle.poly.specs.Promise.{reading, variable, Gives, GivesValue, TellsDegree, TellsZero, TellsLead}
+use Rattle.poly.specs.Operations.{constantOf, monomialOf, exponent, degreeOf, empty, isZeroOf, leadOf, addOf, subOf, mulOf, scaleOf, negOf, diffOf, evalOf, onDone, powered, powerFrom, powerDoor, powOf}
 use Rattle.poly.proofs.Parts.{paired-short, fitting}
 use Rattle.poly.proofs.Unit.{unit, unit-length}
 use Rattle.poly.proofs.Canonical.{open-if, long-if, both-open, Opened, opened, open-poly, open-nil, lowest-from, top-from}
+use Rattle.terms.proofs.Lists.{trim-short, terms-of-poly}
 
 -- ---- a refusal
 
@@ -83,10 +86,10 @@ outcome-done (O.Refused why) e = absurd (omega (arith, number-some why))
 
 -- the polynomial of a canonical list
 pub done-gives : (x : List Rat) (l : List Ratio) (k : ℕ) → length l ≤ 32 → Canonical l → Equal (rats l) x → Gives x (doneWith (polyOf l) k)
-done-gives x l k h c e = record { is = λ s. subst (λ m. Equal (rats m) x) (sym (terms-of l)) e; canonical = open-poly l h c }
+done-gives x l k h c e = record { is = λ s. subst (λ m. Equal (rats m) x) (sym (terms-of-poly l)) e; canonical = open-poly l h c }
 
 pub run-open : (n : ℕ) (r : Ran ℕ (List Ratio)) → n ≤ 32 → Long n r → ((k : ℕ) (l : List Ratio) → r ≡ fine k l → AllLowest l) → doorOf (answerOf r .poly) ≡ Open
-run-open n (fine k l) h e g = open-poly (trim l) (omega (arith, trim-length l)) (trim-canonical l (g k l refl))
+run-open n (fine k l) h e g = open-poly (trim l) (omega (arith, trim-short l)) (trim-canonical l (g k l refl))
 run-open n (over k) h e g = open-nil
 
 -- an answered run gives the textbook's polynomial, and a canonical one
@@ -263,7 +266,7 @@ enter-value Bad x s h = refused-value x BadInput
 pub eval-gives : (p : Poly) (x : Ratio) → GivesValue (P.value (reading p) (rat x)) (evalOf p x)
 eval-gives p x = enter-value (both (doorOf p) (doorOfRatio x)) _ _ (step-gives _ (valueOf (termsOf p) x) (λ r e. value-done (termsOf p) x r e))
 
-degree-some : (d : Gate) (l : List Ratio) (n : ℕ) → degreeFrom d l ≡ E.Is n → (d ≡ Open → Canonical l) → HasDegree (rats l) n
+degree-some : (d : Gate) (l : List Ratio) (n : ℕ) → entered E.Refused d (exponent l) ≡ E.Is n → (d ≡ Open → Canonical l) → HasDegree (rats l) n
 degree-some Open [] n e c = let z : _≡_ {A = ℕ} 0 1 = cc in absurd (omega arith)
 degree-some Open (a ∷ l) n e c =
     let f : length l ≡ n = cc in
@@ -271,11 +274,32 @@ degree-some Open (a ∷ l) n e c =
 degree-some TooMany l n e c = let z : _≡_ {A = ℕ} 0 1 = cc in absurd (omega arith)
 degree-some Bad l n e c = let z : _≡_ {A = ℕ} 0 1 = cc in absurd (omega arith)
 
-degree-none : (d : Gate) (l : List Ratio) → degreeFrom d l ≡ E.Zero → IsZero (rats l)
+degree-none : (d : Gate) (l : List Ratio) → entered E.Refused d (exponent l) ≡ E.Zero → IsZero (rats l)
 degree-none Open [] e = zero-from [] poly-empty
 degree-none Open (a ∷ l) e = let z : _≡_ {A = ℕ} 0 1 = cc in absurd (omega arith)
 degree-none TooMany l e = let z : _≡_ {A = ℕ} 0 1 = cc in absurd (omega arith)
 degree-none Bad l e = let z : _≡_ {A = ℕ} 0 1 = cc in absurd (omega arith)
+
+empty-yes : (d : Gate) (l : List Ratio) → entered T.Refused d (empty l) ≡ T.Yes → IsZero (rats l)
+empty-yes Open [] e = zero-from [] poly-empty
+empty-yes Open (a ∷ l) e = let z : _≡_ {A = ℕ} 0 1 = cc in absurd (omega arith)
+empty-yes TooMany l e = let z : _≡_ {A = ℕ} 0 1 = cc in absurd (omega arith)
+empty-yes Bad l e = let z : _≡_ {A = ℕ} 0 1 = cc in absurd (omega arith)
+
+empty-no : (d : Gate) (l : List Ratio) → entered T.Refused d (empty l) ≡ T.No → (d ≡ Open → Canonical l) → IsZero (rats l) → ⊥
+empty-no Open [] e c h = let z : _≡_ {A = ℕ} 0 1 = cc in omega arith
+empty-no Open (a ∷ l) e c h = let z : length (a ∷ l) ≡ 0 = ap length (canonical-nil (a ∷ l) (c refl) (zero-to (rats (a ∷ l)) h)) in omega arith
+empty-no TooMany l e c h = let z : _≡_ {A = ℕ} 0 1 = cc in omega arith
+empty-no Bad l e c h = let z : _≡_ {A = ℕ} 0 1 = cc in omega arith
+
+pub zero-tells : (p : Poly) → TellsZero p (isZeroOf p)
+zero-tells p = record {
+  yes = empty-yes (doorOf p) (termsOf p);
+  no = λ e. empty-no (doorOf p) (termsOf p) e (λ o. opened p o .canonical);
+}
+
+pub with-zero : (p : Poly) (t : Truth) → t ≡ isZeroOf p → (t ≡ isZeroOf p) × TellsZero p t
+with-zero p t e = (e, subst (TellsZero p) (sym e) (zero-tells p))
 
 pub degree-tells : (p : Poly) → TellsDegree p (degreeOf p)
 degree-tells p = record {

@@ -20,8 +20,8 @@ use Rattle.ratio.proofs.Words.{nil-test}
 use Rattle.terms.specs.declared.Poly.{Poly}
 use Rattle.terms.specs.Poly.{polyOf, trim, dropTop}
 use Rattle.terms.specs.Answer.{doneWith}
-use Rattle.terms.proofs.Lists.{top-less}
-use Rattle.terms.proofs.MeaningTop.{trim-nothing, trim-length}
+use Rattle.terms.proofs.Lists.{top-less, trim-short}
+use Rattle.terms.proofs.MeaningTop.{trim-nothing}
 use Rattle.poly.specs.declared.Gate.{Gate}
 use Rattle.poly.specs.declared.Gate.the-variants.{Open, Long, Bad}
 use Rattle.poly.specs.Door.{allLowest, topIsSome, enter}
@@ -63,7 +63,7 @@ top-by l n true e f =
     let a : suc n - 1 ≡ n = omega arith in
     let s : trim (take (suc n) l) ≡ trim (take (suc n - 1) l) = top-less l (suc n) zeroR (omega arith) (omega arith) (rw a f) in
     let u : trim l ≡ trim (take n l) = ap trim (sym (take-all (suc n) l (omega arith))) ∙ s ∙ ap (λ (k : ℕ). trim (take k l)) a in
-    ne-eqb (length (trim l)) (length l) (λ g. omega (arith, ap length u, trim-length (take n l), length-take-le n l (omega arith)))
+    ne-eqb (length (trim l)) (length l) (λ g. omega (arith, ap length u, trim-short (take n l), length-take-le n l (omega arith)))
 
 pub parts-none : (ns ds : List ℤ) → length ns ≡ 0 → true ≡ partsLowest ns ds
 unfolding paired allLowest dropTop

@@ -1,12 +1,11 @@
 -- Document 01, module 3 and "order": what is canonical, and what is refused before any work: 5, then 4 where the inputs alone show it.
 use mathlib.Core.Bool.{Bool, true, false, not, _&&_}
 use mathlib.Core.List.{List, [], _∷_}
-use Prim.Native.Nat.{ℕ, zero, suc, _-_}
+use Prim.Native.Nat.{zero, _-_}
 use lib.Dec.{ltb, eqb}
-use lib.IntN.{ℤ, pos, natAbs}
+use lib.IntN.{pos, natAbs}
 use lib.Signed.{ltZ}
-use lib.ListN.{length, drop, getD}
-use Rattle.ratio.specs.Refusal.{zeroR}
+use lib.ListN.{length, drop}
 use Rattle.ratio.specs.Step.{isLowest, isNil}
 use Rattle.ratio.specs.declared.Ratio.{Ratio}
 use Rattle.ratio.specs.declared.Reason.{Reason}
@@ -70,12 +69,14 @@ reasonOf Open = BadInput
 reasonOf Long = TooLong
 reasonOf Bad = BadInput
 
+-- behind an open door the work's answer, behind another one its refusal
+abbrev pub entered : {X : Type 0} → (Reason → X) → Gate → X → X
+entered refuse Open r = r
+entered refuse Long r = refuse TooLong
+entered refuse Bad r = refuse BadInput
+
 abbrev pub enter : Gate → Answer → Answer
-enter Open r = r
-enter Long r = refusedWith TooLong 0
-enter Bad r = refusedWith BadInput 0
+enter d r = entered (λ why. refusedWith why 0) d r
 
 abbrev pub enterStep : Gate → Step → Step
-enterStep Open s = s
-enterStep Long s = S.Refused TooLong
-enterStep Bad s = S.Refused BadInput
+enterStep d s = entered S.Refused d s

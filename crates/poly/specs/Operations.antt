@@ -1,5 +1,4 @@
 -- Document 01, module 3: what each public operation answers: the door first, then the work.
-use mathlib.Core.Bool.{Bool, true, false}
 use mathlib.Core.List.{List, [], _∷_, _++_}
 use Prim.Native.Nat.{ℕ, zero, suc, _+_, _-_, _*_}
 use lib.Dec.{ltb}
@@ -9,7 +8,6 @@ use Rattle.ratio.specs.Refusal.{zeroR}
 use Rattle.ratio.specs.declared.Outcome.{Outcome}
 use Rattle.ratio.specs.declared.Outcome.the-variants as O
 use Rattle.ratio.specs.declared.Ratio.{Ratio}
-use Rattle.ratio.specs.declared.Reason.the-variants.{TooLong, BadInput}
 use Rattle.ratio.specs.declared.Step.{Step}
 use Rattle.ratio.specs.declared.Step.the-variants as S
 use Rattle.terms.specs.declared.Poly.{Poly}
@@ -23,8 +21,8 @@ use Rattle.poly.specs.declared.Exponent.the-variants as D
 use Rattle.poly.specs.declared.Truth.{Truth}
 use Rattle.poly.specs.declared.Truth.the-variants as T
 use Rattle.poly.specs.declared.Gate.{Gate}
-use Rattle.poly.specs.declared.Gate.the-variants.{Open, Long, Bad}
-use Rattle.poly.specs.Door.{doorOf, doorOfRatio, both, longIf, enter, enterStep}
+use Rattle.poly.specs.declared.Gate.the-variants.{Open}
+use Rattle.poly.specs.Door.{doorOf, doorOfRatio, both, longIf, entered, enter, enterStep}
 
 abbrev pub constantOf : Ratio → Answer
 constantOf c = enter (doorOfRatio c) (doneWith (polyOf (trim (c ∷ []))) 0)
@@ -33,23 +31,19 @@ constantOf c = enter (doorOfRatio c) (doneWith (polyOf (trim (c ∷ []))) 0)
 abbrev pub monomialOf : ℕ → Answer
 monomialOf n = enter (longIf (ltb 31 n) Open) (doneWith (polyOf (replicate n zeroR ++ (wholeR (pos 1) ∷ []))) 0)
 
-abbrev pub degreeFrom : Gate → List Ratio → Exponent
-degreeFrom Open [] = D.Zero
-degreeFrom Open (a ∷ l) = D.Is (length l)
-degreeFrom Long l = D.Refused TooLong
-degreeFrom Bad l = D.Refused BadInput
+abbrev pub exponent : List Ratio → Exponent
+exponent [] = D.Zero
+exponent (a ∷ l) = D.Is (length l)
 
 abbrev pub degreeOf : Poly → Exponent
-degreeOf p = degreeFrom (doorOf p) (termsOf p)
+degreeOf p = entered D.Refused (doorOf p) (exponent (termsOf p))
 
-abbrev pub truthFrom : Gate → List Ratio → Truth
-truthFrom Open [] = T.Yes
-truthFrom Open (a ∷ l) = T.No
-truthFrom Long l = T.Refused TooLong
-truthFrom Bad l = T.Refused BadInput
+abbrev pub empty : List Ratio → Truth
+empty [] = T.Yes
+empty (a ∷ l) = T.No
 
 abbrev pub isZeroOf : Poly → Truth
-isZeroOf p = truthFrom (doorOf p) (termsOf p)
+isZeroOf p = entered T.Refused (doorOf p) (empty (termsOf p))
 
 abbrev pub leadOf : Poly → Step
 leadOf p = enterStep (doorOf p) (S.Done (getD (termsOf p) (length (termsOf p) - 1) zeroR))

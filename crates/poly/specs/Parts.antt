@@ -1,18 +1,17 @@
 -- Document 01, module 3: a polynomial made from two lent lists. Unequal lengths, an entry that is no fraction in lowest terms and a zero at the top are 5; then over 32 entries is 4.
-use mathlib.Core.Bool.{Bool, true, false, not, _&&_}
+use mathlib.Core.Bool.{Bool, true, false, _&&_}
 use mathlib.Core.List.{List, [], _∷_}
-use Prim.Native.Nat.{ℕ, zero, suc}
+use Prim.Native.Nat.{zero}
 use lib.Dec.{ltb, eqb}
 use lib.IntN.{ℤ}
 use lib.ListN.{length}
 use Rattle.ratio.specs.declared.Ratio.{Ratio}
-use Rattle.ratio.specs.declared.Reason.the-variants.{TooLong, BadInput}
 use Rattle.terms.specs.declared.Answer.{Answer}
 use Rattle.terms.specs.Poly.{polyOf}
-use Rattle.terms.specs.Answer.{doneWith, refusedWith}
+use Rattle.terms.specs.Answer.{doneWith}
 use Rattle.poly.specs.declared.Gate.{Gate}
-use Rattle.poly.specs.declared.Gate.the-variants.{Open, Long, Bad}
-use Rattle.poly.specs.Door.{allLowest, topIsSome, openIf, longIf, enter}
+use Rattle.poly.specs.declared.Gate.the-variants.{Open, Bad}
+use Rattle.poly.specs.Door.{allLowest, topIsSome, longIf, enter}
 
 -- the fractions of two lists, as far as both go
 unfoldable pub paired : List ℤ → List ℤ → List Ratio

@@ -7,7 +7,6 @@ use Rattle.algebra.specs.Polynomial.{Equal, coeff, value}
 use Rattle.algebra.specs.Textbook.{HasDegree, IsZero}
 use Rattle.ratio.specs.Refusal.{statusOf, ratioOf, outcomeStatus}
 use Rattle.ratio.specs.Promise.{rat, Lowest}
-use Rattle.ratio.specs.declared.Ratio.{Ratio}
 use Rattle.ratio.specs.declared.Step.{Step}
 use Rattle.terms.specs.declared.Poly.{Poly}
 use Rattle.terms.specs.declared.Answer.{Answer}
@@ -15,6 +14,8 @@ use Rattle.terms.specs.Poly.{termsOf}
 use Rattle.terms.specs.Meaning.{rats}
 use Rattle.poly.specs.declared.Exponent.{Exponent}
 use Rattle.poly.specs.declared.Exponent.the-variants as E
+use Rattle.poly.specs.declared.Truth.{Truth}
+use Rattle.poly.specs.declared.Truth.the-variants as T
 use Rattle.poly.specs.declared.Gate.the-variants.{Open}
 use Rattle.poly.specs.Door.{doorOf}
 
@@ -40,6 +41,11 @@ pub record GivesValue (x : Rat) (s : Step) : Type 0 where
 pub record TellsDegree (p : Poly) (e : Exponent) : Type 0 where
   pub some : (n : ℕ) → e ≡ E.Is n → HasDegree (reading p) n
   pub none : e ≡ E.Zero → IsZero (reading p)
+
+-- whether p is zero
+pub record TellsZero (p : Poly) (t : Truth) : Type 0 where
+  pub yes : t ≡ T.Yes → IsZero (reading p)
+  pub no : t ≡ T.No → IsZero (reading p) → ⊥
 
 -- the coefficient that leads
 pub record TellsLead (p : Poly) (s : Step) : Type 0 where

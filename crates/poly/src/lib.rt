@@ -17,7 +17,7 @@ ghost use Rattle.terms.specs.Meaning.{rats};
 ghost use Rattle.terms.specs.Answer.{doneWith};
 ghost use Rattle.poly.specs.Door.{allLowest, isUnused, allUnused, doorOf, doorOfRatio, both as bothOf, reasonOf};
 ghost use Rattle.poly.specs.Parts.{paired, partsLowest, partsDoor, partsOf};
-ghost use Rattle.poly.specs.Promise.{reading, variable, Gives, GivesValue, TellsDegree, TellsLead};
+ghost use Rattle.poly.specs.Promise.{reading, variable, Gives, GivesValue, TellsDegree, TellsZero, TellsLead};
 ghost use Rattle.poly.specs.Operations.{constantOf, monomialOf, degreeOf, isZeroOf, leadOf, addOf, subOf, mulOf, scaleOf, negOf, diffOf, evalOf, powerDoor, powerFrom, powOf};
 
 // Whether an input may come in: over 32 coefficients is 4, what isn't canonical is 5.
@@ -194,6 +194,7 @@ pub fn degree(p: Poly) -> Exponent
 
 pub fn is_zero(p: Poly) -> Truth
     ensures is { λ r. ⌜ r ≡ isZeroOf p ⌝ }
+    ensures promise { λ r. ⌜ TellsZero p r ⌝ }
 {
     let d = door(p);
     if let Gate::Open = d {

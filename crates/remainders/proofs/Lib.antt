@@ -6,6 +6,9 @@ pub mod CodeAnswer
 pub mod CodeDivision
 pub mod CodeFree
 pub mod CodeGcd
+pub mod CodeOrdered
+pub mod CodePower
+pub mod CodeResultant
 pub mod MeaningDiscriminant
 pub mod MeaningDivision
 pub mod MeaningFree
@@ -16,6 +19,3 @@ pub mod PriceGcd
 pub mod PriceResultant
 pub mod PriceShift
 pub mod PriceSquareFree
-pub mod Powers
-pub mod Inner
-pub mod Outer

@@ -34,9 +34,9 @@ use Rattle.terms.proofs.Meaning.{polyR, polyR-at, polyR-below, polyR-trim}
 use Rattle.terms.proofs.MeaningStep.{both-answered, same-answer, times-value, made-lowest}
 use Rattle.terms.proofs.MeaningProduct.{rowed-length, rowed-means}
 use Rattle.terms.proofs.MeaningLowest.{AllLowest, cons-lowest, take-lowest, rowed-lowest}
-use Rattle.terms.proofs.MeaningTop.{trim-length}
 use Rattle.terms.proofs.MeaningCanonical.{Canonical, trim-canonical, empty-canonical, top-some, canonical-degree}
 use Rattle.remainders.specs.Divide.{Split, split, quotients, dividedIf, divided, lead}
+use Rattle.terms.proofs.Lists.{trim-short}
 
 -- one term of the quotient takes the highest coefficient away
 one-term : (p b : ℚP) (k m : ℕ) → HasDeg ℚ-ring b m → Below ℚ-ring (suc (k + m)) (p .0)
@@ -165,7 +165,7 @@ module _ (y : Ratio) (ys : List Ratio) (c : Canonical (y ∷ ys)) where
         (λ i h. ap (λ p. p .0 i) (rest-poly (s .rest) (z .small)) ∙ z .small i (omega arith)));
     quotient-canonical = trim-canonical (s .quotient) (z .low-quotient);
     rest-canonical = trim-canonical (take (length b - 1) (s .rest)) (take-lowest (length b - 1) (s .rest) (z .low-rest));
-    shorter = omega (arith, trim-length (take (length b - 1) (s .rest)), length-take (length b - 1) (s .rest));
+    shorter = omega (arith, trim-short (take (length b - 1) (s .rest)), length-take (length b - 1) (s .rest));
   }
 
   lower-dividend : (a : List Ratio) → Canonical a → length a < length b → Divided a b (split [] a)

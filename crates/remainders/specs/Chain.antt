@@ -1,7 +1,7 @@
 -- Document 01, module 4, the written chain: the list of steps with their operands, in the original's order of work. The number reported is its length.
 use mathlib.Core.List.{List, [], _∷_, _++_}
 use mathlib.Core.Path.{_≡_}
-use Prim.Native.Nat.{ℕ, zero, suc, _<_}
+use Prim.Native.Nat.{ℕ, suc, _<_}
 use lib.IntN.{ℤ, pos}
 use lib.ListN.{length, getD}
 use Rattle.ratio.specs.Refusal.{ratioOf, zeroR}

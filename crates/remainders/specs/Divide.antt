@@ -5,7 +5,7 @@ use Prim.Native.Nat.{ℕ, zero, suc, _+_, _-_}
 use lib.Dec.{ltb}
 use lib.ListN.{length, getD, take}
 use Rattle.ratio.specs.Step.{isNil}
-use Rattle.terms.specs.Machine.{minus, times, Ran, fine, over, andThen, Machine}
+use Rattle.terms.specs.Machine.{minus, times, Ran, fine, andThen, Machine}
 use Rattle.terms.specs.Poly.{dropTop}
 use Rattle.terms.specs.Work.{nil, rowed}
 

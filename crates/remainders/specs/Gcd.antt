@@ -1,11 +1,10 @@
 -- Document 01, module 4, gcd: divides until the remainder is zero, then scales by the inverse leading coefficient; the square-free part as the original makes it.
-use mathlib.Core.Bool.{Bool, true, false}
 use mathlib.Core.List.{List, [], _∷_}
 use Prim.Native.Nat.{ℕ, zero, suc}
 use lib.ListN.{length}
 use Rattle.terms.specs.Machine.{Ran, fine, over, andThen, Machine}
 use Rattle.terms.specs.Work.{scaled, derived}
-use Rattle.remainders.specs.Divide.{Split, dropped, lead, divided}
+use Rattle.remainders.specs.Divide.{dropped, lead, divided}
 
 module _ {W Log : Type 0} (M : Machine W Log) where
   -- scaled so that the leading coefficient is 1; zero stays zero

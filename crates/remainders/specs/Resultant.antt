@@ -1,13 +1,13 @@
 -- Document 01, module 4, resultant and discriminant, by the original's recursion.
 use mathlib.Core.Bool.{Bool, true, false}
 use mathlib.Core.List.{List, [], _∷_}
-use Prim.Native.Nat.{ℕ, zero, suc, _+_, _-_, _*_, _/_, _%_}
+use Prim.Native.Nat.{ℕ, zero, suc, _-_, _*_, _/_, _%_}
 use lib.Dec.{ltb, eqb}
 use lib.IntN.{ℤ, pos, negsuc}
 use lib.ListN.{length}
-use Rattle.terms.specs.Machine.{times, Ran, fine, over, andThen, Machine}
+use Rattle.terms.specs.Machine.{times, Ran, fine, andThen, Machine}
 use Rattle.terms.specs.Work.{nil, derived}
-use Rattle.remainders.specs.Divide.{Split, dropped, lead, divided}
+use Rattle.remainders.specs.Divide.{dropped, lead, divided}
 
 -- 1 for an even number, −1 for an odd one
 abbrev pub signIf : Bool → ℤ

@@ -13,7 +13,7 @@ use Rattle.ratio.specs.declared.Step.{Step}
 use Rattle.ratio.specs.declared.Step.the-variants.{Done, Refused}
 use Rattle.terms.specs.declared.Answer.{Answer}
 use Rattle.terms.proofs.StepsCount.{stepsOf, few-then}
-use Rattle.terms.specs.Machine.{Op, plus, times, Ran, fine, over, andThen, counted, stepOf, plain, wholeR}
+use Rattle.terms.specs.Machine.{Op, plus, times, Ran, fine, over, counted, stepOf, plain, wholeR}
 use Rattle.terms.specs.Work.{each, zipped, scaled, derived, rowed, rows, multiplied}
 use Rattle.terms.specs.Answer.{answerOf, unlessLong, productOf}
 

@@ -6,8 +6,7 @@ use Prim.Native.Nat.{ℕ, _+_, _-_}
 use native.Mathlib.Omega.{arith}
 use lib.Dec.{ltb}
 use lib.IntN.{pos}
-use lib.ListN.{length, replicate}
-use lib.Seq.{take-append-seam}
+use lib.ListN.{length}
 use Rattle.algebra.specs.Rational.{Rat, Same}
 use Rattle.algebra.specs.Polynomial.{Equal, sum, negated, derivative, product}
 use Rattle.algebra.specs.Polynomial as P
@@ -26,7 +25,7 @@ use Rattle.terms.specs.declared.Answer.{Answer}
 use Rattle.terms.specs.Machine.{plus, minus, Ran, fine, over, wholeR, plain}
 use Rattle.terms.specs.Answer.{answerOf, negatedOf, unlessLong, productOf, stepFrom, valueOf}
 use Rattle.terms.specs.Meaning.{rats}
-use Rattle.terms.specs.Poly.{termsOf, polyOf, trim}
+use Rattle.terms.specs.Poly.{termsOf, trim}
 use Rattle.terms.specs.Work.{zipped, scaled, derived, multiplied, valued}
 use Rattle.terms.proofs.Meaning.{trim-means}
 use Rattle.terms.proofs.MeaningLowest.{AllLowest, none-lowest, zipped-lowest, scaled-lowest, derived-lowest, negated-lowest, multiplied-lowest, valued-lowest}
@@ -34,14 +33,12 @@ use Rattle.terms.proofs.MeaningSum.{sum-means, difference-means, scaled
 use Rattle.terms.proofs.MeaningCanonical.{Canonical, trim-canonical}
 use Rattle.terms.proofs.MeaningProduct.{multiplied-means}
 use Rattle.terms.proofs.MeaningValue.{valued-means}
+use Rattle.terms.proofs.Lists.{terms-of-poly}
 
 -- ---- the coefficients in use
 
-pub terms-of : (l : List Ratio) → termsOf (polyOf l) ≡ l
-terms-of l = take-append-seam l (replicate (32 - length l) zeroR)
-
 pub answer-terms : (k : ℕ) (l : List Ratio) → termsOf (answerOf (fine k l) .poly) ≡ trim l
-answer-terms k l = terms-of (trim l)
+answer-terms k l = terms-of-poly (trim l)
 
 -- ---- the answer hands back the polynomial q, in canonical form
 

@@ -23,7 +23,8 @@ use Rattle.terms.specs.Meaning.{rats}
 use Rattle.terms.specs.Poly.{dropTop, trim}
 use Rattle.terms.proofs.Meaning.{polyR, polyR-at, polyR-below, nil-num, polyR-trim}
 use Rattle.terms.proofs.MeaningLowest.{AllLowest, none-lowest, trim-lowest}
-use Rattle.terms.proofs.MeaningTop.{trim-top, trim-nothing, trim-again, top-degree}
+use Rattle.terms.proofs.MeaningTop.{trim-top, trim-nothing, top-degree}
+use Rattle.terms.proofs.Lists.{trim-trim}
 
 -- every entry in lowest terms, no zero at the top
 pub record Canonical (l : List Ratio) : Type 0 where
@@ -35,7 +36,7 @@ unfolding dropTop
 empty-canonical = record { lowest = none-lowest; trimmed = refl }
 
 pub trim-canonical : (l : List Ratio) → AllLowest l → Canonical (trim l)
-trim-canonical l h = record { lowest = trim-lowest l h; trimmed = trim-again l }
+trim-canonical l h = record { lowest = trim-lowest l h; trimmed = trim-trim l }
 
 -- ---- the top of a list that isn't empty
 

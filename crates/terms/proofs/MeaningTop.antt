@@ -63,9 +63,6 @@ module _ {W : Type 0} (f : W → Bool) (d : W) where
 abbrev nilAt : Ratio → Bool
 nilAt r = isNil (r .num)
 
-pub trim-length : (l : List Ratio) → length (trim l) ≤ length l
-trim-length l = drop-length nilAt zeroR l
-
 pub trim-top : (l : List Ratio) (n : ℕ) → length (trim l) ≡ suc n → isNil (getD (trim l) n zeroR .num) ≡ false
 trim-top l n p = drop-top nilAt zeroR l n p
 
@@ -74,9 +71,6 @@ trim-lead l h = trim-top l (length (trim l) - 1) (omega arith)
 
 pub trim-nothing : (l : List Ratio) (n : ℕ) → length l ≡ suc n → isNil (getD l n zeroR .num) ≡ false → trim l ≡ l
 trim-nothing l n p e = drop-nothing nilAt zeroR l n p e
-
-pub trim-again : (l : List Ratio) → trim (trim l) ≡ trim l
-trim-again l = drop-again nilAt zeroR l
 
 -- ---- the degree
 

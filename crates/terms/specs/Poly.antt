@@ -1,7 +1,7 @@
 -- Document 01, module 3: a polynomial is its coefficients, rising, at most 32 of them, with no zero at the top; unused places are 0/1.
 use mathlib.Core.Bool.{Bool, true, false}
 use mathlib.Core.List.{List, [], _∷_, _++_}
-use Prim.Native.Nat.{ℕ, _-_}
+use Prim.Native.Nat.{_-_}
 use lib.ListN.{length, take, replicate}
 use Rattle.ratio.specs.Refusal.{zeroR}
 use Rattle.ratio.specs.Step.{isNil}

@@ -1,9 +1,9 @@
 -- Document 01, module 3, in the original's order of work: sum, difference, product, multiple, derivative and value, on lists of any length.
-use mathlib.Core.List.{List, [], _∷_, _++_}
+use mathlib.Core.List.{List, [], _∷_}
 use Prim.Native.Nat.{ℕ, zero, suc, _+_, _-_, max}
 use lib.IntN.{pos}
 use lib.ListN.{length, getD, set, replicate}
-use Rattle.terms.specs.Machine.{Op, plus, minus, times, Ran, fine, over, andThen, Machine}
+use Rattle.terms.specs.Machine.{Op, plus, times, Ran, fine, andThen, Machine}
 
 -- f i, f (i + 1), .., n of them
 unfoldable pub each : {W Log : Type 0} → (ℕ → Log → Ran Log W) → ℕ → ℕ → Log → Ran Log (List W)

@@ -5,7 +5,7 @@ use lib.IntN.{ℤ, natAbs}
 use mir.Facts.{toZ-ofZ}
 use Rattle.ratio.specs.declared.Outcome.{Outcome}
 use Rattle.euclid.specs.Answer.{wholeIf, wholeFromIf}
-use Rattle.euclid.proofs.Shut.{whole-kept, whole-refused}
+use Rattle.euclid.proofs.Wholes.{whole-kept, whole-refused}
 use borrow.Author.Needs.{needs}
 use Rattle.euclid.proofs.as_whole.Statement.{statement}
 use Rattle.euclid.proofs.as_whole.Tie as tie

@@ -1,10 +1,7 @@
 -- `euclid::discriminant` meets its contract.
 use mathlib.Core.Path.{_≡_, ap, _∙_}
-use Rattle.terms.specs.Machine.{plain}
-use Rattle.terms.specs.Poly.{termsOf}
-use Rattle.remainders.specs.Resultant.{discriminantOf}
-use Rattle.euclid.specs.Answer.{wholeFrom}
-use Rattle.euclid.proofs.Shut.{open-whole, shut-whole, whole-of-number}
+use Rattle.euclid.specs.Answer.{noWhole, wholeFrom}
+use Rattle.poly.proofs.Doors.{open-entered, shut-entered}
 use Rattle.euclid.proofs.Discriminants.{discriminant-both}
 use Rattle.euclid.proofs.discriminant.Statement.{statement}
 use Rattle.euclid.proofs.discriminant.Tie as tie
@@ -31,15 +28,15 @@ returns : tie.Need-returns
 returns c =
     let g = c .before .before .before .before in
     discriminant-both (g .before .args .f) (c .as-whole .result)
-    (open-whole (g .door .result) _ (g .door .ensures) (c .before .before .enum-told .given .1) _ (c .as-whole .result)
-    (c .as-whole .ensures ∙ ap wholeFrom (c .before .discriminant-ratio .ensures) ∙ whole-of-number (discriminantOf plain (termsOf (g .before .args .f)) 0)))
+    (open-entered (g .door .result) _ (g .door .ensures) (c .before .before .enum-told .given .1) (λ why. noWhole why 0) _ (c .as-whole .result)
+    (c .as-whole .ensures ∙ ap wholeFrom (c .before .discriminant-ratio .ensures)))
 
 returns-2 : tie.Need-returns-2
 returns-2 c =
     let w = c .before in
     let g = w .before .before in
     discriminant-both (g .before .args .f) (c .no-whole .result)
-    (shut-whole (g .door .result) _ (g .door .ensures) (w .before .match .keys2) (w .reason .result) (w .reason .ensures) _ (c .no-whole .result) (c .no-whole .ensures))
+    (shut-entered (g .door .result) _ (g .door .ensures) (w .before .match .keys2) (w .reason .result) (w .reason .ensures) (λ why. noWhole why 0) _ (c .no-whole .result) (c .no-whole .ensures))
 
 pub discriminant-spec : {M : Type 1} → statement M
 discriminant-spec =

@@ -1,7 +1,8 @@
 -- `euclid::div_rem` meets its contract.
 use mathlib.Core.Path.{_≡_, ap, ap₂, _∙_}
 use Rattle.poly.specs.Door.{doorOf, both}
-use Rattle.euclid.proofs.Shut.{open-division, shut-division}
+use Rattle.poly.proofs.Doors.{open-entered, shut-entered}
+use Rattle.remainders.specs.Answer.{noDivision}
 use Rattle.euclid.proofs.Divisions.{division-both}
 use Rattle.euclid.proofs.div_rem.Statement.{statement}
 use Rattle.euclid.proofs.div_rem.Tie as tie
@@ -34,7 +35,7 @@ returns : tie.Need-returns
 returns c =
     let g = c .before .before .before in
     let s = g .before .before .before .args in
-    division-both (s .a) (s .b) (c .divide .result) (open-division (g .both .result) _ (gate g) (c .before .enum-told .given .1) _ (c .divide .result) (c .divide .ensures))
+    division-both (s .a) (s .b) (c .divide .result) (open-entered (g .both .result) _ (gate g) (c .before .enum-told .given .1) (λ why. noDivision why 0) _ (c .divide .result) (c .divide .ensures))
 
 returns-2 : tie.Need-returns-2
 returns-2 c =
@@ -42,7 +43,7 @@ returns-2 c =
     let g = w .before .before in
     let s = g .before .before .before .args in
     division-both (s .a) (s .b) (c .no-division .result)
-    (shut-division (g .both .result) _ (gate g) (w .before .match .keys2) (w .reason .result) (w .reason .ensures) _ (c .no-division .result) (c .no-division .ensures))
+    (shut-entered (g .both .result) _ (gate g) (w .before .match .keys2) (w .reason .result) (w .reason .ensures) (λ why. noDivision why 0) _ (c .no-division .result) (c .no-division .ensures))
 
 pub div-rem-spec : {M : Type 1} → statement M
 div-rem-spec =

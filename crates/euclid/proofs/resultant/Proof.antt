@@ -1,11 +1,8 @@
 -- `euclid::resultant` meets its contract.
 use mathlib.Core.Path.{_≡_, ap, ap₂, _∙_}
-use Rattle.terms.specs.Machine.{plain}
-use Rattle.terms.specs.Poly.{termsOf}
-use Rattle.remainders.specs.Resultant.{resultantOf}
 use Rattle.poly.specs.Door.{doorOf, both}
-use Rattle.euclid.specs.Answer.{wholeFrom}
-use Rattle.euclid.proofs.Shut.{open-whole, shut-whole, whole-of-number}
+use Rattle.euclid.specs.Answer.{noWhole, wholeFrom}
+use Rattle.poly.proofs.Doors.{open-entered, shut-entered}
 use Rattle.euclid.proofs.Resultants.{resultant-both}
 use Rattle.euclid.proofs.resultant.Statement.{statement}
 use Rattle.euclid.proofs.resultant.Tie as tie
@@ -42,8 +39,8 @@ returns c =
     let g = c .before .before .before .before in
     let s = g .before .before .before .args in
     resultant-both (s .a) (s .b) (c .as-whole .result)
-    (open-whole (g .both .result) _ (gate g) (c .before .before .enum-told .given .1) _ (c .as-whole .result)
-    (c .as-whole .ensures ∙ ap wholeFrom (c .before .resultant-ratio .ensures) ∙ whole-of-number (resultantOf plain (termsOf (s .a)) (termsOf (s .b)) 0)))
+    (open-entered (g .both .result) _ (gate g) (c .before .before .enum-told .given .1) (λ why. noWhole why 0) _ (c .as-whole .result)
+    (c .as-whole .ensures ∙ ap wholeFrom (c .before .resultant-ratio .ensures)))
 
 returns-2 : tie.Need-returns-2
 returns-2 c =
@@ -51,7 +48,7 @@ returns-2 c =
     let g = w .before .before in
     let s = g .before .before .before .args in
     resultant-both (s .a) (s .b) (c .no-whole .result)
-    (shut-whole (g .both .result) _ (gate g) (w .before .match .keys2) (w .reason .result) (w .reason .ensures) _ (c .no-whole .result) (c .no-whole .ensures))
+    (shut-entered (g .both .result) _ (gate g) (w .before .match .keys2) (w .reason .result) (w .reason .ensures) (λ why. noWhole why 0) _ (c .no-whole .result) (c .no-whole .ensures))
 
 pub resultant-spec : {M : Type 1} → statement M
 resultant-spec =

@@ -9,7 +9,7 @@ use Rattle.terms.specs.Machine.{fine, plain}
 use Rattle.remainders.specs.Divide.{lead as leadOf}
 use Rattle.remainders.specs.Resultant.{unit, powered}
 use Rattle.remainders.specs.Answer.{numberOf}
-use Rattle.remainders.proofs.Inner.{zero-is, constant-told, power-told, degrees-fit, division-refused, division-few, rest-shorter, nothing-left, power-few, power-refused, inner-refused, all-made, ordered-few}
+use Rattle.remainders.proofs.CodeOrdered.{zero-is, constant-told, power-told, degrees-fit, division-refused, division-few, rest-shorter, nothing-left, power-few, power-refused, inner-refused, all-made, ordered-few}
 use Rattle.terms.specs.Poly.{termsOf}
 use Rattle.terms.proofs.Lists.{long, past, within-32, read-terms}
 use Prim.Native.Nat.{ℕ, _+_, _-_, _<_, _≤_}

@@ -10,7 +10,7 @@ use Rattle.terms.specs.Poly.{termsOf}
 use Rattle.terms.specs.Machine.{fine}
 use Rattle.terms.proofs.Lists.{long, within-32}
 use Rattle.remainders.specs.Answer.{numberOf}
-use Rattle.remainders.proofs.Outer.{discriminant-zero, discriminant-one, derivative-refused, derivative-few, resultant-refused, discriminant-made, resultant-few}
+use Rattle.remainders.proofs.CodeResultant.{discriminant-zero, discriminant-one, derivative-refused, derivative-few, resultant-refused, discriminant-made, resultant-few}
 use Rattle.remainders.proofs.discriminant_ratio.Statement.{statement}
 use Rattle.remainders.proofs.discriminant_ratio.Tie as tie
 

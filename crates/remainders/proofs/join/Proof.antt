@@ -1,6 +1,6 @@
 -- `remainders::join` meets its contract: the two products one after the other.
 use mathlib.Core.Path.{sym, _∙_}
-use Rattle.remainders.proofs.Powers.{first-over, second-over, joined-all}
+use Rattle.remainders.proofs.CodePower.{first-over, second-over, joined-all}
 use borrow.Author.Needs.{needs}
 use Rattle.remainders.proofs.join.Statement.{statement}
 use Rattle.remainders.proofs.join.Tie as tie

@@ -3,7 +3,7 @@ use mathlib.Core.Path.{sym, _∙_}
 use Prim.Native.Nat.{_≤_, _-_}
 use native.Mathlib.Omega.{arith}
 use borrow.Author.Needs.{needs}
-use Rattle.remainders.proofs.Powers.{Powered, powered-none, powered-more, powered-over, powered-all}
+use Rattle.remainders.proofs.CodePower.{Powered, powered-none, powered-more, powered-over, powered-all}
 use Rattle.remainders.proofs.power.Statement.{statement}
 use Rattle.remainders.proofs.power.Tie as tie
 

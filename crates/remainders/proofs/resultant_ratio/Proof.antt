@@ -10,7 +10,7 @@ use Rattle.terms.specs.Poly.{termsOf}
 use Rattle.terms.specs.Machine.{fine}
 use Rattle.terms.proofs.Lists.{long, past, within-32, read-terms}
 use Rattle.remainders.specs.Answer.{numberOf}
-use Rattle.remainders.proofs.Outer.{left-zero, right-zero, left-constant-told, right-constant-told, ordered-is}
+use Rattle.remainders.proofs.CodeResultant.{left-zero, right-zero, left-constant-told, right-constant-told, ordered-is}
 use Rattle.remainders.proofs.resultant_ratio.Statement.{statement}
 use Rattle.remainders.proofs.resultant_ratio.Tie as tie
 

@@ -6,8 +6,8 @@ use lib.ListN.{length}
 use borrow.Author.Needs.{needs}
 use Rattle.terms.specs.Poly.{termsOf}
 use Rattle.terms.proofs.Lists.{long, within-32}
-use Rattle.remainders.proofs.Inner.{degrees-fit, ordered-few}
-use Rattle.remainders.proofs.Outer.{swapped-refused, sign-refused, sign-made}
+use Rattle.remainders.proofs.CodeOrdered.{degrees-fit, ordered-few}
+use Rattle.remainders.proofs.CodeResultant.{swapped-refused, sign-refused, sign-made}
 use Rattle.remainders.proofs.swapped.Statement.{statement}
 use Rattle.remainders.proofs.swapped.Tie as tie
 

@@ -1,11 +1,9 @@
 -- Laws of the recursion of resultants: the run from what division, power and the inner resultant tell, each counted from 0; and bounds of their steps.
 use mathlib.Core.Path.{_≡_, refl, sym, ap, _∙_}
-use mathlib.Core.Bool.{Bool, true, false}
 use mathlib.Core.List.{List, [], _∷_}
 use Prim.Native.Nat.{ℕ, zero, suc, _+_, _-_, _*_, _≤_, _<_}
 use native.Mathlib.Nat.{mul-le-mul}
 use native.Mathlib.Omega.{arith}
-use lib.Dec.{ltb}
 use lib.ListN.{length, getD}
 use Rattle.ratio.specs.Refusal.{zeroR}
 use Rattle.ratio.specs.declared.Outcome.the-variants as O
@@ -20,9 +18,9 @@ use Rattle.remainders.specs.declared.Division.{Division}
 use Rattle.remainders.specs.declared.Number.{Number}
 use Rattle.remainders.specs.Divide.{Split, split, lead, divided}
 use Rattle.remainders.specs.Resultant.{signOf, degreeOf, unit, powered, signed, joined, onward, ordered}
-use Rattle.remainders.specs.Price.{divisionIf, divisionPrice}
 use Rattle.remainders.specs.Answer.{divisionOf, dividedOf, noNumber, numberOf}
-use Rattle.remainders.proofs.PriceDivide.{division-price, rest-below}
+use Rattle.remainders.proofs.CodeAnswer.{some-divided, division-few as division-cheap}
+use Rattle.remainders.proofs.PriceDivide.{rest-below}
 use Rattle.remainders.proofs.PriceResultant.{powered-price, orderedWith, ordered-price}
 use Rattle.remainders.proofs.PriceShift.{powered-shift, ordered-shift}
 
@@ -80,15 +78,6 @@ division-fine : (r : Ran ℕ (Split Ratio)) (d : Division) → d ≡ divisionOf 
 division-fine (fine k s) d e o = record { quotient = s .quotient; is = rw (e, terms-of-poly (s .rest)) }
 division-fine (over k) d e o = absurd (let n : _≡_ {A = ℕ} 0 1 = cc in omega arith)
 
-division-steps : (r : Ran ℕ (Split Ratio)) → divisionOf r .steps ≡ stepsOf r
-division-steps (fine k s) = refl
-division-steps (over k) = refl
-
-divided-some : (a b : List Ratio) → 1 ≤ length b → dividedOf a b ≡ divisionOf (divided plain a b 0)
-unfolding dividedOf
-divided-some a [] h = absurd (omega arith)
-divided-some a (y ∷ b) h = refl
-
 -- ---- the run, by the length of the second and what is left of the division
 
 module _ (a b : List Ratio) where
@@ -131,28 +120,15 @@ onward-none a b (r ∷ rest) inner k h = absurd (omega arith)
 module _ (a b : List Ratio) (h : 2 ≤ length b) (d : Division) (e : d ≡ dividedOf a b) where
   pub division-refused : (why : Reason) → d .outcome ≡ O.Refused why → noNumber (d .steps) ≡ numberOf (ordered plain (length b) a b 0)
   division-refused why o =
-      let r = division-over (divided plain a b 0) d why (e ∙ divided-some a b (omega arith)) o in
+      let r = division-over (divided plain a b 0) d why (e ∙ some-divided a b (omega arith)) o in
       rw (division-first a b h, r)
 
   pub division-few : length a ≤ 32 → length b ≤ length a → d .steps ≤ 2080
-  division-few l m =
-      let p : stepsOf (divided plain a b 0) ≤ 0 + divisionPrice (length a - 1) (length b - 1) = division-price a b (omega arith) (omega arith) 0 in
-      let q : d .steps ≡ stepsOf (divided plain a b 0) = ap (λ (x : Division). x .steps) (e ∙ divided-some a b (omega arith)) ∙ division-steps (divided plain a b 0) in
-      omega (arith, price-few (length a - 1) (length b - 1) (omega arith) (omega arith))
-    where
-      price-if : (t : Bool) (n m : ℕ) → n ≤ 31 → m ≤ 31 → divisionIf t n m ≤ 2080
-      price-if true n m l k = omega arith
-      price-if false n m l k =
-          let x : n - m + 1 ≤ 32 = omega arith in
-          let y : 2 * m + 3 ≤ 65 = omega arith in
-          mul-le-mul x y
-
-      price-few : (n m : ℕ) → n ≤ 31 → m ≤ 31 → divisionPrice n m ≤ 2080
-      price-few n m l k = price-if (ltb n m) n m l k
+  division-few l m = division-cheap a b d (omega arith) e l (omega arith)
 
   module _ (o : d .outcome ≡ O.Done) where
     made : Made (divided plain a b 0) d
-    made = division-fine (divided plain a b 0) d (e ∙ divided-some a b (omega arith)) o
+    made = division-fine (divided plain a b 0) d (e ∙ some-divided a b (omega arith)) o
 
     pub rest-shorter : length (termsOf (d .rest)) < length b
     rest-shorter = rest-below a b (omega arith) 0 (d .steps) (split (made .quotient) (termsOf (d .rest))) (made .is) .shorter

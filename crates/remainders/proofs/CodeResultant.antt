@@ -32,7 +32,7 @@ use Rattle.remainders.specs.Price.{orderedPrice, resultantIf, resultantP
 use Rattle.remainders.specs.Answer.{noNumber, numberOf}
 use Rattle.remainders.proofs.PriceResultant.{resultant-price, resultant-price-left-zero, resultant-price-right-zero}
 use Rattle.remainders.proofs.PriceShift.{resultantOf-shift}
-use Rattle.remainders.proofs.Inner.{number-over, number-fine, number-steps}
+use Rattle.remainders.proofs.CodeOrdered.{number-over, number-fine, number-steps}
 
 -- ---- the resultant by the lengths
 
