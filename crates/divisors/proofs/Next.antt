@@ -48,16 +48,16 @@ module _ (marks : List ℕ) where
   next-out zero at e h = absurd (e refl)
   next-out (suc n) at e h = rw (le-ltb at 262144 h) (out (leb (suc n) limit) _)
 
-  go : (size at : ℕ) → (size ≡ 0 → ⊥) → size ≤ limit → at < 262144 → nextOf size marks at ≡ orElse (hereOf size marks at) (at + 1) (firstOf (markFrom marks (65535 - at / 4) (at / 4 + 1)))
+  go : (size at : ℕ) → (size ≡ 0 → ⊥) → size ≤ limit → at < 262144 → nextOf size marks at ≡ orElse (hereOf size marks at) (at + 1) (firstOf (markFrom size marks (65535 - at / 4) (at / 4 + 1)))
   unfolding nextOf
   go zero at e h g = absurd (e refl)
-  go (suc n) at e h g = ap (λ t. foundIf t (orElse (hereOf (suc n) marks at) (at + 1) (firstOf (markFrom marks (65535 - at / 4) (at / 4 + 1))))) (inside (suc n) at h g)
+  go (suc n) at e h g = ap (λ t. foundIf t (orElse (hereOf (suc n) marks at) (at + 1) (firstOf (markFrom (suc n) marks (65535 - at / 4) (at / 4 + 1))))) (inside (suc n) at h g)
 
   pub next-here : (size at : ℕ) (z : ℤ) → (size ≡ 0 → ⊥) → size ≤ limit → at < 262144 → hereOf size marks at ≡ Is z → At z (at + 1) ≡ nextOf size marks at
-  next-here size at z e h g p = sym (go size at e h g ∙ ap (λ x. orElse x (at + 1) (firstOf (markFrom marks (65535 - at / 4) (at / 4 + 1)))) p)
+  next-here size at z e h g p = sym (go size at e h g ∙ ap (λ x. orElse x (at + 1) (firstOf (markFrom size marks (65535 - at / 4) (at / 4 + 1)))) p)
 
-  pub next-after : (size at : ℕ) → (size ≡ 0 → ⊥) → size ≤ limit → at < 262144 → hereOf size marks at ≡ Nothing → firstOf (markFrom marks (65535 - at / 4) (at / 4 + 1)) ≡ nextOf size marks at
-  next-after size at e h g p = sym (go size at e h g ∙ ap (λ x. orElse x (at + 1) (firstOf (markFrom marks (65535 - at / 4) (at / 4 + 1)))) p)
+  pub next-after : (size at : ℕ) → (size ≡ 0 → ⊥) → size ≤ limit → at < 262144 → hereOf size marks at ≡ Nothing → firstOf (markFrom size marks (65535 - at / 4) (at / 4 + 1)) ≡ nextOf size marks at
+  next-after size at e h g p = sym (go size at e h g ∙ ap (λ x. orElse x (at + 1) (firstOf (markFrom size marks (65535 - at / 4) (at / 4 + 1)))) p)
 
 module _ (n : ℤ) (budget : ℕ) where
   pub listing-large : limit < natAbs n → listingOf n budget ≡ refusedBy BadInput

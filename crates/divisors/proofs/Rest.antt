@@ -11,8 +11,7 @@ use lib.ListN.{drop}
 use Rattle.ratio.specs.Range.{limit}
 use Rattle.divisors.specs.declared.Entry.the-variants.{Is, Nothing}
 use Rattle.divisors.specs.Listing.{entries, others, keep}
-use Rattle.divisors.specs.Marks.{bitAt}
-use Rattle.divisors.specs.Walk.{rest, restFrom, markFrom, pick, entryOf, entryIf}
+use Rattle.divisors.specs.Walk.{marked, rest, restFrom, markFrom, pick, entryOf, entryIf}
 use Rattle.divisors.proofs.Next.{inside}
 
 -- a list from a place on, by the entry at that place
@@ -29,7 +28,7 @@ drop-nothing (x ∷ l) (suc k) e = drop-nothing l k e
 
 -- what is left from entry k of the number j + 1 on
 unfoldable pub left : ℕ → List ℕ → ℕ → ℕ → List ℤ
-left size marks j k = keep (bitAt marks j) (drop k (entries size (j + 1))) ++ restFrom size marks (65535 - j) (j + 1)
+left size marks j k = keep (marked size marks j) (drop k (entries size (j + 1))) ++ restFrom size marks (65535 - j) (j + 1)
 
 -- at most four entries are listed for one number
 others-two : (t : Bool) (d : ℕ) → drop 2 (others t d) ≡ []
@@ -45,41 +44,41 @@ module _ (size : ℕ) (marks : List ℕ) where
   unfolding restFrom
   from-none j = refl
 
-  pub from-suc : (k j : ℕ) → restFrom size marks (suc k) j ≡ keep (bitAt marks j) (entries size (j + 1)) ++ restFrom size marks k (suc j)
+  pub from-suc : (k j : ℕ) → restFrom size marks (suc k) j ≡ keep (marked size marks j) (entries size (j + 1)) ++ restFrom size marks k (suc j)
   unfolding restFrom
   from-suc k j = refl
 
   -- where the walk over the bits finds none, nothing is left
-  pub from-end : (k j : ℕ) → markFrom marks k j ≡ j + k → restFrom size marks k j ≡ []
+  pub from-end : (k j : ℕ) → markFrom size marks k j ≡ j + k → restFrom size marks k j ≡ []
   unfolding restFrom markFrom
   from-end zero j e = refl
-  from-end (suc k) j e = by (bitAt marks j) e (from-end k (suc j))
+  from-end (suc k) j e = by (marked size marks j) e (from-end k (suc j))
     where
-      by : (t : Bool) → pick t j (markFrom marks k (suc j)) ≡ j + suc k → (markFrom marks k (suc j) ≡ suc j + k → restFrom size marks k (suc j) ≡ []) → keep t (entries size (j + 1)) ++ restFrom size marks k (suc j) ≡ []
+      by : (t : Bool) → pick t j (markFrom size marks k (suc j)) ≡ j + suc k → (markFrom size marks k (suc j) ≡ suc j + k → restFrom size marks k (suc j) ≡ []) → keep t (entries size (j + 1)) ++ restFrom size marks k (suc j) ≡ []
       by true f g = absurd (omega arith)
       by false f g = g (omega arith)
 
   -- where it finds one, that number's entries come next
-  pub from-mark : (k j : ℕ) → markFrom marks k j < j + k → restFrom size marks k j ≡ entries size (markFrom marks k j + 1) ++ restFrom size marks (j + k - (markFrom marks k j + 1)) (markFrom marks k j + 1)
+  pub from-mark : (k j : ℕ) → markFrom size marks k j < j + k → restFrom size marks k j ≡ entries size (markFrom size marks k j + 1) ++ restFrom size marks (j + k - (markFrom size marks k j + 1)) (markFrom size marks k j + 1)
   unfolding restFrom markFrom
   from-mark zero j h = absurd (omega arith)
-  from-mark (suc k) j h = by (bitAt marks j) h (from-mark k (suc j))
+  from-mark (suc k) j h = by (marked size marks j) h (from-mark k (suc j))
     where
-      by : (t : Bool) → (let m = pick t j (markFrom marks k (suc j)) in m < j + suc k) → (let m = markFrom marks k (suc j) in m < suc j + k → restFrom size marks k (suc j) ≡ entries size (m + 1) ++ restFrom size marks (suc j + k - (m + 1)) (m + 1)) → (let m = pick t j (markFrom marks k (suc j)) in keep t (entries size (j + 1)) ++ restFrom size marks k (suc j) ≡ entries size (m + 1) ++ restFrom size marks (j + suc k - (m + 1)) (m + 1))
+      by : (t : Bool) → (let m = pick t j (markFrom size marks k (suc j)) in m < j + suc k) → (let m = markFrom size marks k (suc j) in m < suc j + k → restFrom size marks k (suc j) ≡ entries size (m + 1) ++ restFrom size marks (suc j + k - (m + 1)) (m + 1)) → (let m = pick t j (markFrom size marks k (suc j)) in keep t (entries size (j + 1)) ++ restFrom size marks k (suc j) ≡ entries size (m + 1) ++ restFrom size marks (j + suc k - (m + 1)) (m + 1))
       by true f g = ap₂ (λ a b. entries size (j + 1) ++ restFrom size marks a b) (let e : k ≡ j + suc k - (j + 1) = omega arith in e) (let e : suc j ≡ j + 1 = omega arith in e)
-      by false f g = g (omega arith) ∙ ap (λ a. entries size (markFrom marks k (suc j) + 1) ++ restFrom size marks a (markFrom marks k (suc j) + 1)) (let e : suc j + k - (markFrom marks k (suc j) + 1) ≡ j + suc k - (markFrom marks k (suc j) + 1) = omega arith in e)
+      by false f g = g (omega arith) ∙ ap (λ a. entries size (markFrom size marks k (suc j) + 1) ++ restFrom size marks a (markFrom size marks k (suc j) + 1)) (let e : suc j + k - (markFrom size marks k (suc j) + 1) ≡ j + suc k - (markFrom size marks k (suc j) + 1) = omega arith in e)
 
-  pub left-entry : (j k : ℕ) (z : ℤ) → entryIf (bitAt marks j) (entryOf (entries size (j + 1)) k) ≡ Is z → left size marks j k ≡ z ∷ left size marks j (suc k)
+  pub left-entry : (j k : ℕ) (z : ℤ) → entryIf (marked size marks j) (entryOf (entries size (j + 1)) k) ≡ Is z → left size marks j k ≡ z ∷ left size marks j (suc k)
   unfolding left
-  left-entry j k z = by (bitAt marks j)
+  left-entry j k z = by (marked size marks j)
     where
       by : (t : Bool) → entryIf t (entryOf (entries size (j + 1)) k) ≡ Is z → keep t (drop k (entries size (j + 1))) ++ restFrom size marks (65535 - j) (j + 1) ≡ z ∷ (keep t (drop (suc k) (entries size (j + 1))) ++ restFrom size marks (65535 - j) (j + 1))
       by true e = ap (λ l. l ++ restFrom size marks (65535 - j) (j + 1)) (drop-entry (entries size (j + 1)) k z e)
       by false e = absurd (let f : _≡_ {A = ℕ} 0 1 = cc in omega arith)
 
-  pub left-nothing : (j k : ℕ) → entryIf (bitAt marks j) (entryOf (entries size (j + 1)) k) ≡ Nothing → left size marks j k ≡ restFrom size marks (65535 - j) (j + 1)
+  pub left-nothing : (j k : ℕ) → entryIf (marked size marks j) (entryOf (entries size (j + 1)) k) ≡ Nothing → left size marks j k ≡ restFrom size marks (65535 - j) (j + 1)
   unfolding left
-  left-nothing j k = by (bitAt marks j)
+  left-nothing j k = by (marked size marks j)
     where
       by : (t : Bool) → entryIf t (entryOf (entries size (j + 1)) k) ≡ Nothing → keep t (drop k (entries size (j + 1))) ++ restFrom size marks (65535 - j) (j + 1) ≡ restFrom size marks (65535 - j) (j + 1)
       by true e = ap (λ l. l ++ restFrom size marks (65535 - j) (j + 1)) (drop-nothing (entries size (j + 1)) k e)
@@ -89,12 +88,12 @@ module _ (size : ℕ) (marks : List ℕ) where
   pub left-four : (j : ℕ) → left size marks j 4 ≡ restFrom size marks (65535 - j) (j + 1)
   unfolding left
   left-four j =
-      ap (λ l. keep (bitAt marks j) l ++ restFrom size marks (65535 - j) (j + 1)) (others-two (eqb ((j + 1) * (j + 1)) size) (size / (j + 1)))
-      ∙ ap (λ l. l ++ restFrom size marks (65535 - j) (j + 1)) (keep-nil (bitAt marks j))
+      ap (λ l. keep (marked size marks j) l ++ restFrom size marks (65535 - j) (j + 1)) (others-two (eqb ((j + 1) * (j + 1)) size) (size / (j + 1)))
+      ∙ ap (λ l. l ++ restFrom size marks (65535 - j) (j + 1)) (keep-nil (marked size marks j))
 
   pub left-first : (j : ℕ) → j < 65535 → left size marks (j + 1) 0 ≡ restFrom size marks (65535 - j) (j + 1)
   unfolding left
-  left-first j h = sym (ap (λ a. restFrom size marks a (j + 1)) (omega arith) ∙ from-suc (65535 - (j + 1)) (j + 1) ∙ ap (λ b. keep (bitAt marks (j + 1)) (entries size (j + 1 + 1)) ++ restFrom size marks (65535 - (j + 1)) b) (omega arith))
+  left-first j h = sym (ap (λ a. restFrom size marks a (j + 1)) (omega arith) ∙ from-suc (65535 - (j + 1)) (j + 1) ∙ ap (λ b. keep (marked size marks (j + 1)) (entries size (j + 1 + 1)) ++ restFrom size marks (65535 - (j + 1)) b) (omega arith))
 
 module _ (n : ℕ) (marks : List ℕ) where
   pub rest-inside : (at : ℕ) → suc n ≤ limit → at < 262144 → rest (suc n) marks at ≡ left (suc n) marks (at / 4) (at % 4)

@@ -14,8 +14,7 @@ use Rattle.divisors.specs.declared.Entry.the-variants.{Is, Nothing}
 use Rattle.divisors.specs.declared.Found.{Found}
 use Rattle.divisors.specs.declared.Found.the-variants.{At, End}
 use Rattle.divisors.specs.Listing.{entries, keep}
-use Rattle.divisors.specs.Marks.{bitAt}
-use Rattle.divisors.specs.Walk.{rest, restFrom, markFrom, foundIf, firstOf, hereOf, nextOf}
+use Rattle.divisors.specs.Walk.{marked, rest, restFrom, markFrom, foundIf, firstOf, hereOf, nextOf}
 use Rattle.divisors.specs.Promise.{Walks}
 use Rattle.divisors.proofs.Next.{next-zero, next-zero-end, next-large, next-out, next-here, next-after}
 use Rattle.divisors.proofs.Skip.{mark-le, mark-ge, mark-set}
@@ -60,7 +59,7 @@ module _ (n : ℕ) (marks : List ℕ) (at : ℕ) (h : suc n ≤ limit) (g : at <
   rest-here z e = rest-inside n marks at h g ∙ left-entry (suc n) marks (at / 4) (at % 4) z e ∙ ap (λ l. z ∷ l) behind
 
   -- the place behind the first entry of the number m + 1
-  rest-second : (m : ℕ) → m < 65536 → bitAt marks m ≡ true → rest (suc n) marks (m * 4 + 1) ≡ drop 1 (entries (suc n) (m + 1)) ++ restFrom (suc n) marks (65535 - m) (m + 1)
+  rest-second : (m : ℕ) → m < 65536 → marked (suc n) marks m ≡ true → rest (suc n) marks (m * 4 + 1) ≡ drop 1 (entries (suc n) (m + 1)) ++ restFrom (suc n) marks (65535 - m) (m + 1)
   unfolding left
   rest-second m p e =
       rest-inside n marks (m * 4 + 1) h (omega arith)
@@ -71,25 +70,25 @@ module _ (n : ℕ) (marks : List ℕ) (at : ℕ) (h : suc n ≤ limit) (g : at <
     rest-from : rest (suc n) marks at ≡ restFrom (suc n) marks (65535 - at / 4) (at / 4 + 1)
     rest-from = rest-inside n marks at h g ∙ left-nothing (suc n) marks (at / 4) (at % 4) e
 
-    after : (m : ℕ) → markFrom marks (65535 - at / 4) (at / 4 + 1) ≡ m → Dec (m < 65536) → Walks (suc n) marks at (firstOf m)
+    after : (m : ℕ) → markFrom (suc n) marks (65535 - at / 4) (at / 4 + 1) ≡ m → Dec (m < 65536) → Walks (suc n) marks at (firstOf m)
     after m f (yes p) =
         let k = 65535 - at / 4 in
         let j = at / 4 + 1 in
-        let lt : markFrom marks k j < j + k = omega arith in
+        let lt : markFrom (suc n) marks k j < j + k = omega arith in
         subst (Walks (suc n) marks at) (sym (ap (λ t. foundIf t (At (pos (m + 1)) (m * 4 + 1))) (lt-ltb m 65536 p)))
         (walks-at (suc n) marks at (pos (m + 1)) (m * 4 + 1)
         (rest-from
         ∙ from-mark (suc n) marks k j lt
         ∙ ap (λ x. entries (suc n) (x + 1) ++ restFrom (suc n) marks (j + k - (x + 1)) (x + 1)) f
         ∙ ap (λ x. entries (suc n) (m + 1) ++ restFrom (suc n) marks x (m + 1)) (let q : j + k - (m + 1) ≡ 65535 - m = omega arith in q)
-        ∙ ap (λ l. pos (m + 1) ∷ l) (sym (rest-second m p (subst (λ x. bitAt marks x ≡ true) f (mark-set marks k j lt)))))
-        (omega (arith, mark-ge marks k j))
+        ∙ ap (λ l. pos (m + 1) ∷ l) (sym (rest-second m p (subst (λ x. marked (suc n) marks x ≡ true) f (mark-set (suc n) marks k j lt)))))
+        (omega (arith, mark-ge (suc n) marks k j))
         (omega arith))
     after m f (no p) =
         let k = 65535 - at / 4 in
         let j = at / 4 + 1 in
         subst (Walks (suc n) marks at) (sym (ap (λ t. foundIf t (At (pos (m + 1)) (m * 4 + 1))) (le-ltb m 65536 (omega arith))))
-        (walks-end (suc n) marks at (rest-from ∙ from-end (suc n) marks k j (omega (arith, mark-le marks k j))))
+        (walks-end (suc n) marks at (rest-from ∙ from-end (suc n) marks k j (omega (arith, mark-le (suc n) marks k j))))
 
   walks-inside : (e : Entry) → hereOf (suc n) marks at ≡ e → Walks (suc n) marks at (nextOf (suc n) marks at)
   walks-inside (Is z) e = subst (Walks (suc n) marks at) (next-here marks (suc n) at z (omega arith) h g e) (walks-at (suc n) marks at z (at + 1) (rest-here z e) (omega arith) (omega arith))

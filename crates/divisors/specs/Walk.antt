@@ -2,8 +2,8 @@
 use mathlib.Core.Path.{_≡_}
 use mathlib.Core.Bool.{Bool, true, false, _&&_}
 use mathlib.Core.List.{List, [], _∷_, _++_}
-use Prim.Native.Nat.{ℕ, zero, suc, _+_, _-_, _*_, _/_, _%_, _<_, _≤_}
-use lib.Dec.{leb, ltb}
+use Prim.Native.Nat.{ℕ, zero, suc, _+_, _-_, _*_, _/_, _%_, _^_, _<_, _≤_}
+use lib.Dec.{leb, ltb, eqb}
 use lib.IntN.{ℤ, pos}
 use lib.ListN.{drop}
 use Rattle.ratio.specs.Range.{limit}
@@ -14,10 +14,14 @@ use Rattle.divisors.specs.declared.Found.the-variants.{At, End}
 use Rattle.divisors.specs.Listing.{entries, keep}
 use Rattle.divisors.specs.Marks.{bitAt}
 
+-- bit j counts where it is set and j + 1 is at most the root: no divisor behind it is listed
+abbrev pub marked : ℕ → List ℕ → ℕ → Bool
+marked size marks j = leb ((j + 1) * (j + 1)) size && bitAt marks j
+
 -- the entries for k bits from bit j on
 unfoldable pub restFrom : ℕ → List ℕ → ℕ → ℕ → List ℤ
 restFrom size marks zero j = []
-restFrom size marks (suc k) j = keep (bitAt marks j) (entries size (j + 1)) ++ restFrom size marks k (suc j)
+restFrom size marks (suc k) j = keep (marked size marks j) (entries size (j + 1)) ++ restFrom size marks k (suc j)
 
 -- the entry 0 alone
 abbrev pub zeroFrom : ℕ → List ℤ
@@ -33,22 +37,28 @@ unfoldable pub rest : ℕ → List ℕ → ℕ → List ℤ
 rest zero marks at = zeroFrom at
 rest (suc n) marks at =
     keep (isPlace (suc n) at)
-    (keep (bitAt marks (at / 4)) (drop (at % 4) (entries (suc n) (at / 4 + 1))) ++ restFrom (suc n) marks (65535 - at / 4) (at / 4 + 1))
+    (keep (marked (suc n) marks (at / 4)) (drop (at % 4) (entries (suc n) (at / 4 + 1))) ++ restFrom (suc n) marks (65535 - at / 4) (at / 4 + 1))
 
 abbrev pub pick : Bool → ℕ → ℕ → ℕ
 pick true a b = a
 pick false a b = b
 
--- the first bit set from j on, among k; j + k where there is none
-unfoldable pub markFrom : List ℕ → ℕ → ℕ → ℕ
-markFrom marks zero j = j
-markFrom marks (suc k) j = pick (bitAt marks j) j (markFrom marks k (suc j))
+-- the first bit that counts from j on, among k; j + k where there is none
+unfoldable pub markFrom : ℕ → List ℕ → ℕ → ℕ → ℕ
+markFrom size marks zero j = j
+markFrom size marks (suc k) j = pick (marked size marks j) j (markFrom size marks k (suc j))
 
 -- no bit is set from j up to j + r
 pub record Clear (marks : List ℕ) (j r : ℕ) : Type 0 where
   pub some : 0 < r
   pub inside : j + r ≤ 65536
   pub unset : (b : ℕ) → b < r → bitAt marks (j + b) ≡ false
+
+-- the same within a word: from bit s up to bit s + r
+pub record ClearIn (word s r : ℕ) : Type 0 where
+  pub some : 0 < r
+  pub inside : s + r ≤ 64
+  pub unset : (b : ℕ) → b < r → eqb (word / 2 ^ (s + b) % 2) 1 ≡ false
 
 abbrev pub entryOf : List ℤ → ℕ → Entry
 entryOf [] k = Nothing
@@ -73,7 +83,7 @@ entryIf false e = Nothing
 
 -- the entry at a place, where its number is marked
 abbrev pub hereOf : ℕ → List ℕ → ℕ → Entry
-hereOf size marks at = entryIf (bitAt marks (at / 4)) (entryOf (entries size (at / 4 + 1)) (at % 4))
+hereOf size marks at = entryIf (marked size marks (at / 4)) (entryOf (entries size (at / 4 + 1)) (at % 4))
 
 abbrev pub zeroNext : ℕ → Found
 zeroNext zero = At (pos 0) 1
@@ -83,4 +93,4 @@ zeroNext (suc at) = End
 unfoldable pub nextOf : ℕ → List ℕ → ℕ → Found
 nextOf zero marks at = zeroNext at
 nextOf (suc n) marks at =
-    foundIf (isPlace (suc n) at) (orElse (hereOf (suc n) marks at) (at + 1) (firstOf (markFrom marks (65535 - at / 4) (at / 4 + 1))))
+    foundIf (isPlace (suc n) at) (orElse (hereOf (suc n) marks at) (at + 1) (firstOf (markFrom (suc n) marks (65535 - at / 4) (at / 4 + 1))))

@@ -3,13 +3,14 @@
 use ratio::Outcome;
 use ratio::Reason;
 ghost use mathlib.Core.Path.{_≡_};
-ghost use Prim.Native.Nat.{_+_, _-_, _*_, _<_, _≤_};
+ghost use Prim.Native.Nat.{_+_, _-_, _*_, _/_, _%_, _^_, _<_, _≤_};
 ghost use mathlib.Core.Bool.{false};
+ghost use lib.Dec.{eqb, ltb};
 ghost use Rattle.ratio.specs.Range.{limit};
 ghost use Rattle.divisors.specs.Listing.{entries, isSmall};
 ghost use Rattle.divisors.specs.Marks.{digit, wordFrom, marksOf, bitAt, refusedBy, listingOf};
 ghost use Rattle.divisors.specs.Promise.{Lists, Walks};
-ghost use Rattle.divisors.specs.Walk.{markFrom, Clear, entryOf, firstOf, hereOf, nextOf};
+ghost use Rattle.divisors.specs.Walk.{markFrom, Clear, ClearIn, entryOf, firstOf, hereOf, nextOf};
 
 pub struct Listing {
     pub outcome: Outcome,
@@ -108,25 +109,50 @@ fn is_marked(marks: &[u64; 1024], j: usize) -> bool
     (marks[j / 64] >> (j % 64)) % 2 == 1
 }
 
+// From an unmarked bit of a word to the next that is set, or else to the word's end.
+fn zeros(word: u64, s: usize) -> usize
+    requires { ⌜ (s < 64) × (eqb (word / 2 ^ s % 2) 1 ≡ false) ⌝ }
+    ensures { λ r. ⌜ ClearIn word s r ⌝ }
+{
+    let left = word >> s;
+    if left == 0 {
+        64 - s
+    } else {
+        u64::trailing_zeros(left) as usize
+    }
+}
+
 // How far the walk may go on from an unmarked bit: an empty word is passed over whole.
 fn stride(marks: &[u64; 1024], j: usize) -> usize
     requires { ⌜ (j < 65536) × (bitAt (now marks) j ≡ false) ⌝ }
     ensures { λ r. ⌜ Clear (now (marks .entry)) j r ⌝ }
 {
-    if j % 64 == 0 {
-        if marks[j / 64] == 0 { 64 } else { 1 }
+    if marks[j / 64] == 0 {
+        64 - j % 64
     } else {
-        1
+        zeros(marks[j / 64], j % 64)
     }
 }
 
-// The first bit marked from `from` on; 65,536 where there is none.
-fn next_mark(marks: &[u64; 1024], from: usize) -> usize
+// No divisor is listed above the root, so the walk ends there.
+fn past_root(size: u64, j: usize) -> bool
+    requires { ⌜ j < 65536 ⌝ }
+    ensures { λ r. ⌜ r ≡ ltb size ((j + 1) * (j + 1)) ⌝ }
+{
+    let i = (j as u64) + 1;
+    size < i * i
+}
+
+// The first bit that counts from `from` on; 65,536 where there is none.
+fn next_mark(size: u64, marks: &[u64; 1024], from: usize) -> usize
     requires { ⌜ from ≤ 65536 ⌝ }
-    ensures { λ r. ⌜ r ≡ markFrom (now (marks .entry)) (65536 - from) from ⌝ }
+    ensures { λ r. ⌜ r ≡ markFrom size (now (marks .entry)) (65536 - from) from ⌝ }
 {
     let mut j = from;
     while j < 65536 {
+        if past_root(size, j) {
+            return 65536;
+        }
         if is_marked(marks, j) {
             return j;
         }
@@ -176,7 +202,9 @@ fn entry_here(size: u64, marks: &[u64; 1024], at: usize) -> Entry
     ensures { λ r. ⌜ r ≡ hereOf size (now (marks .entry)) at ⌝ }
 {
     let j = at / 4;
-    if is_marked(marks, j) {
+    if past_root(size, j) {
+        Entry::Nothing
+    } else if is_marked(marks, j) {
         entry_at(size, (j as u64) + 1, at % 4)
     } else {
         Entry::Nothing
@@ -205,7 +233,7 @@ pub fn next_factor(size: u64, marks: &[u64; 1024], at: usize) -> Found
                 value,
                 next: at + 1,
             },
-            Entry::Nothing => first_entry(next_mark(marks, at / 4 + 1)),
+            Entry::Nothing => first_entry(next_mark(size, marks, at / 4 + 1)),
         }
     }
 }

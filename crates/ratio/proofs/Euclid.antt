@@ -1,7 +1,7 @@
 -- Laws of `gcdOf`: Euclid's step, and the textbook's words.
-use mathlib.Core.Path.{_≡_, refl}
+use mathlib.Core.Path.{_≡_, refl, ap, _∙_}
 use Prim.Native.Nat.{ℕ, zero, suc, _∣_, _%_, _<_, _≤_, suc-le-suc, zero-le}
-use native.Mathlib.Nat.{mod-lt, dvd-refl, dvd-zero, dvd-mod-iff, pos-of-dvd-of-pos, le-of-dvd}
+use native.Mathlib.Nat.{mod-lt, mod-one, dvd-refl, dvd-zero, dvd-mod-iff, pos-of-dvd-of-pos, le-of-dvd}
 use native.Mathlib.Omega.{arith}
 use Rattle.ratio.specs.Gcd.{gcdBy, gcdOf, IsGcd}
 
@@ -23,6 +23,9 @@ pub gcd-step : (x y : ℕ) → (y ≡ 0 → ⊥) → gcdOf x y ≡ gcdOf y (x % 
 unfolding gcdOf gcdBy
 gcd-step x zero n = absurd (n refl)
 gcd-step x (suc b) n = by-any (suc b) (suc (x % suc b)) (suc b) (x % suc b) (mod-lt x (suc-le-suc zero-le)) (omega arith)
+
+pub gcd-one : (x : ℕ) → gcdOf x 1 ≡ 1
+gcd-one x = gcd-step x 1 (λ e. omega arith) ∙ ap (gcdOf 1) (mod-one x) ∙ gcd-zero 1
 
 by-greatest : (k a b d : ℕ) → b < k → d ∣ a → d ∣ b → d ∣ gcdBy k a b
 unfolding gcdBy

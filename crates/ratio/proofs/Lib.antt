@@ -1,9 +1,11 @@
 pub mod Words
 pub mod Halves
 pub mod Euclid
+pub mod Binary
 pub mod Checked
 pub mod Fractions
 pub mod Models
+pub mod Short
 pub mod Compared
 pub mod Quotient
 pub mod Lowest

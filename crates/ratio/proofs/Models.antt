@@ -1,14 +1,17 @@
 -- What the models answer along their tests.
-use mathlib.Core.Path.{_≡_, refl}
+use mathlib.Core.Path.{_≡_, refl, ap}
 use mathlib.Core.Bool.{Bool, true, false}
 use lib.IntN.{ℤ, negℤ, _+ℤ_, _*ℤ_}
 use Rattle.ratio.proofs.Words.{abs-neg}
+use Rattle.ratio.proofs.Quotient.{lowest-neg}
 use Rattle.algebra.proofs.Ring.{neg-mul}
 use Rattle.algebra.proofs.Whole.{ℤ-ring}
 use Rattle.ratio.specs.Range.{within}
-use Rattle.ratio.specs.Step.{isNil, isFraction, lowest, newOf, addOf, subOf, mulOf, negOf, invOf}
+use Rattle.ratio.specs.Step.{isNil, isFraction, need, lowest, newOf, addOf, subOf, mulOf, negOf, invOf}
 use Rattle.ratio.specs.declared.Ratio.{Ratio}
+use Rattle.ratio.specs.declared.Step.{Step}
 use Rattle.ratio.specs.declared.Step.the-variants.{Done, Refused}
+use Rattle.ratio.specs.declared.Reason.{Reason}
 use Rattle.ratio.specs.declared.Reason.the-variants.{CoeffOverflow, DivByZero, BadInput}
 
 module _ (a b : Ratio) where
@@ -105,3 +108,22 @@ sub-no a b h = sub-no-by a b (isFraction a) refl h
 pub sub-is-add : (a b : Ratio) → addOf a (record { num = negℤ (b .num); den = b .den }) ≡ subOf a b
 unfolding addOf subOf
 sub-is-add a b = rw (abs-neg (b .num), neg-mul ℤ-ring (b .num) (a .den), abs-neg (b .num *ℤ a .den))
+
+-- ---- a product with the negative is the negative product
+
+abbrev pub negR : Ratio → Ratio
+negR r = record { num = negℤ (r .num); den = r .den }
+
+abbrev pub negStep : Step → Step
+negStep (Done r) = Done (negR r)
+negStep (Refused why) = Refused why
+
+need-neg : (t : Bool) (why : Reason) (s u : Step) → u ≡ negStep s → need t why u ≡ negStep (need t why s)
+need-neg true why s u e = e
+need-neg false why s u e = refl
+
+pub mul-neg : (a b : Ratio) → mulOf (negR a) b ≡ negStep (mulOf a b)
+unfolding mulOf
+mul-neg a b =
+    rw (abs-neg (a .num), neg-mul ℤ-ring (a .num) (b .num), abs-neg (a .num *ℤ b .num))
+    (need-neg (isFraction a) BadInput _ _ (need-neg (isFraction b) BadInput _ _ (need-neg (within (a .num *ℤ b .num)) CoeffOverflow _ _ (need-neg (within (a .den *ℤ b .den)) CoeffOverflow _ _ (ap Done (lowest-neg (a .num *ℤ b .num) (a .den *ℤ b .den)))))))

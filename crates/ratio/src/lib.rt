@@ -3,7 +3,8 @@
 ghost use mathlib.Core.Path.{_≡_};
 ghost use mathlib.Core.Bool.{not};
 ghost use lib.Dec.{eqb};
-ghost use Prim.Native.Nat.{_*_, _≤_};
+ghost use Prim.Native.Nat.{_+_, _*_, _-_, _/_, _%_, _^_, _<_, _≤_, min};
+ghost use lib.Count.{trailingZeros};
 ghost use lib.IntN.{pos, natAbs, _+ℤ_, _*ℤ_};
 ghost use lib.Signed.{ltZ};
 ghost use Rattle.algebra.specs.Rational.{addQ, subQ, mulQ, negQ, over};
@@ -11,7 +12,7 @@ ghost use Rattle.ratio.specs.Refusal.{numberOf};
 ghost use Rattle.ratio.specs.Range.{limit, Within, within};
 ghost use Rattle.ratio.specs.Gcd.{gcdOf, IsGcd};
 ghost use Rattle.ratio.specs.Number.{productOf, wholeOf, wide};
-ghost use Rattle.ratio.specs.Step.{isNil, isFraction, differ, orderOf, isLowest, signed as signedOf, lowest, newOf, addOf, subOf, mulOf, negOf, invOf, cmpOf};
+ghost use Rattle.ratio.specs.Step.{isNil, isFraction, differ, orderOf, isLowest, signed as signedOf, facing, lowest, newOf, addOf, subOf, mulOf, negOf, invOf, cmpOf};
 ghost use Rattle.ratio.specs.Promise.{rat, Fraction, Lowest, AddFits, SubFits, MulFits, InvFits, Answers, Orders, Tells};
 
 // Why something is refused. `specs/Refusal.antt` gives each reason document 01's number.
@@ -117,17 +118,62 @@ fn signed(neg: bool, m: u64) -> i64
     if neg { -y } else { y }
 }
 
+// What is left once the twos are divided out.
+fn odd_part(x: u64) -> u64
+    requires { ⌜ 0 < x ⌝ }
+    ensures { λ r. ⌜ (r % 2 ≡ 1) × (r * 2 ^ trailingZeros 64 x ≡ x) ⌝ }
+{
+    x >> u64::trailing_zeros(x)
+}
+
+fn least(x: u64, y: u64) -> u64
+    ensures { λ r. ⌜ r ≡ min x y ⌝ }
+{
+    if x < y { x } else { y }
+}
+
+fn gap(x: u64, y: u64) -> u64
+    ensures { λ r. ⌜ r ≡ x - y + (y - x) ⌝ }
+{
+    if x < y { y - x } else { x - y }
+}
+
+// By an odd number: after one division the smaller is taken from the larger, which asks no division more.
+fn gcd_odd(a: u64, b: u64) -> u64
+    requires { ⌜ b % 2 ≡ 1 ⌝ }
+    ensures { λ r. ⌜ r ≡ gcdOf a b ⌝ }
+{
+    if b == 1 {
+        return 1;
+    }
+    let mut x = b;
+    let mut y = a % b;
+    while y != 0 {
+        let z = odd_part(y);
+        y = gap(x, z);
+        x = least(x, z);
+    }
+    x
+}
+
+fn fewer(s: u32, t: u32) -> u32
+    ensures { λ r. ⌜ r ≡ min s t ⌝ }
+{
+    if s < t { s } else { t }
+}
+
+// The twos that both have, and the rest by an odd number.
 fn gcd(a: u64, b: u64) -> u64
     ensures { λ r. ⌜ r ≡ gcdOf a b ⌝ }
 {
-    let mut x = a;
-    let mut y = b;
-    while y != 0 {
-        let t = x % y;
-        x = y;
-        y = t;
+    if a == 0 {
+        return b;
     }
-    x
+    if b == 0 {
+        return a;
+    }
+    let twos = fewer(u64::trailing_zeros(a), u64::trailing_zeros(b));
+    gcd_odd(a, odd_part(b)) << twos
 }
 
 // The greatest common divisor, of -2^63 too: that is why it has no sign.
@@ -164,7 +210,7 @@ fn mul_magnitude(a: u64, b: u64) -> Product
     Product::Is(top + low)
 }
 
-fn mul_whole(x: i64, y: i64) -> Whole
+fn mul_signs(x: i64, y: i64) -> Whole
     requires { ⌜ Within x × Within y ⌝ }
     ensures { λ r. ⌜ r ≡ wholeOf (x *ℤ y) ⌝ }
 {
@@ -172,6 +218,18 @@ fn mul_whole(x: i64, y: i64) -> Whole
         return Whole::Over;
     };
     Whole::Is(signed(is_neg(x) != is_neg(y), m))
+}
+
+// Most denominators are 1: then nothing is multiplied.
+fn mul_whole(x: i64, y: i64) -> Whole
+    requires { ⌜ Within x × Within y ⌝ }
+    ensures { λ r. ⌜ r ≡ wholeOf (x *ℤ y) ⌝ }
+{
+    if y == 1 {
+        Whole::Is(x)
+    } else {
+        mul_signs(x, y)
+    }
 }
 
 fn add_whole(x: i64, y: i64) -> Whole
@@ -198,8 +256,9 @@ fn add_whole(x: i64, y: i64) -> Whole
 
 // ---- fractions
 
-fn is_fraction(r: Ratio) -> bool
-    ensures { λ t. ⌜ t ≡ isFraction r ⌝ }
+// Both entries within the range, the denominator not zero.
+pub fn is_fraction(r: Ratio) -> bool
+    ensures is { λ t. ⌜ t ≡ isFraction r ⌝ }
 {
     if in_range(r.num) {
         if in_range(r.den) { r.den != 0 } else { false }
@@ -208,14 +267,11 @@ fn is_fraction(r: Ratio) -> bool
     }
 }
 
-// Lowest terms, and the sign of the fraction moves to the numerator.
-fn reduce(n: i64, d: i64) -> Ratio
-    requires { ⌜ Fraction (record { num = n; den = d }) ⌝ }
-    ensures { λ r. ⌜ r ≡ lowest n d ⌝ }
+// The sign of the fraction moves to the numerator.
+fn faced(num: i64, den: i64) -> Ratio
+    requires { ⌜ Within num × Within den ⌝ }
+    ensures { λ r. ⌜ r ≡ record { num = facing num den; den = pos (natAbs den) } ⌝ }
 {
-    let g = gcd(magnitude(n), magnitude(d)) as i64;
-    let num = n / g;
-    let den = d / g;
     if den < 0 {
         Ratio {
             num: -num,
@@ -224,6 +280,29 @@ fn reduce(n: i64, d: i64) -> Ratio
     } else {
         Ratio { num, den }
     }
+}
+
+// Both over the divisor they have in common; 1 divides nothing away.
+fn divided(n: i64, d: i64, divisor: u64) -> Ratio
+    requires { ⌜ Fraction (record { num = n; den = d }) × (divisor ≡ gcdOf (natAbs n) (natAbs d)) ⌝ }
+    ensures { λ r. ⌜ r ≡ lowest n d ⌝ }
+{
+    if divisor == 1 {
+        return faced(n, d);
+    }
+    let g = divisor as i64;
+    faced(n / g, d / g)
+}
+
+// Lowest terms; a whole number is in lowest terms already.
+fn reduce(n: i64, d: i64) -> Ratio
+    requires { ⌜ Fraction (record { num = n; den = d }) ⌝ }
+    ensures { λ r. ⌜ r ≡ lowest n d ⌝ }
+{
+    if d == 1 {
+        return Ratio { num: n, den: d };
+    }
+    divided(n, d, gcd(magnitude(n), magnitude(d)))
 }
 
 impl Ratio {
@@ -261,9 +340,20 @@ impl Ratio {
     }
 }
 
-pub fn checked_add(a: Ratio, b: Ratio) -> Step
-    ensures is { λ r. ⌜ r ≡ addOf a b ⌝ }
-    ensures promise { λ r. ⌜ Answers (AddFits a b) (addQ (rat a) (rat b)) r ⌝ }
+// Whether each entry is below 2^31 in size: then no product of two leaves the range, nor does a sum of two products.
+fn narrow(a: Ratio, b: Ratio) -> bool
+    ensures { λ t. ⌜ t ≡ eqb (natAbs (a .num) / 2147483648 + natAbs (a .den) / 2147483648 + natAbs (b .num) / 2147483648 + natAbs (b .den) / 2147483648) 0 ⌝ }
+{
+    let p = magnitude(a.num) / 2147483648;
+    let q = magnitude(a.den) / 2147483648;
+    let r = magnitude(b.num) / 2147483648;
+    let s = magnitude(b.den) / 2147483648;
+    p + q + r + s == 0
+}
+
+// Entries of any size: every intermediate is tested.
+fn add_any(a: Ratio, b: Ratio) -> Step
+    ensures { λ r. ⌜ r ≡ addOf a b ⌝ }
 {
     if !is_fraction(a) {
         return Step::Refused(Reason::BadInput);
@@ -286,6 +376,19 @@ pub fn checked_add(a: Ratio, b: Ratio) -> Step
     Step::Done(reduce(n, d))
 }
 
+pub fn checked_add(a: Ratio, b: Ratio) -> Step
+    ensures is { λ r. ⌜ r ≡ addOf a b ⌝ }
+    ensures promise { λ r. ⌜ Answers (AddFits a b) (addQ (rat a) (rat b)) r ⌝ }
+{
+    if narrow(a, b) {
+        let d = a.den * b.den;
+        if d != 0 {
+            return Step::Done(reduce(a.num * b.den + b.num * a.den, d));
+        }
+    }
+    add_any(a, b)
+}
+
 // The range is the same on both sides of zero, so a - b is a + (-b), refusals included.
 pub fn checked_sub(a: Ratio, b: Ratio) -> Step
     ensures is { λ r. ⌜ r ≡ subOf a b ⌝ }
@@ -305,9 +408,8 @@ pub fn checked_sub(a: Ratio, b: Ratio) -> Step
     }
 }
 
-pub fn checked_mul(a: Ratio, b: Ratio) -> Step
-    ensures is { λ r. ⌜ r ≡ mulOf a b ⌝ }
-    ensures promise { λ r. ⌜ Answers (MulFits a b) (mulQ (rat a) (rat b)) r ⌝ }
+fn mul_any(a: Ratio, b: Ratio) -> Step
+    ensures { λ r. ⌜ r ≡ mulOf a b ⌝ }
 {
     if !is_fraction(a) {
         return Step::Refused(Reason::BadInput);
@@ -322,6 +424,19 @@ pub fn checked_mul(a: Ratio, b: Ratio) -> Step
         return Step::Refused(Reason::CoeffOverflow);
     };
     Step::Done(reduce(n, d))
+}
+
+pub fn checked_mul(a: Ratio, b: Ratio) -> Step
+    ensures is { λ r. ⌜ r ≡ mulOf a b ⌝ }
+    ensures promise { λ r. ⌜ Answers (MulFits a b) (mulQ (rat a) (rat b)) r ⌝ }
+{
+    if narrow(a, b) {
+        let d = a.den * b.den;
+        if d != 0 {
+            return Step::Done(reduce(a.num * b.num, d));
+        }
+    }
+    mul_any(a, b)
 }
 
 pub fn checked_neg(a: Ratio) -> Step

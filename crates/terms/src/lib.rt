@@ -6,13 +6,14 @@ use ratio::Ratio;
 use ratio::Reason;
 use ratio::Step;
 ghost use mathlib.Core.Path.{_≡_};
-ghost use mathlib.Core.List.{[]};
-ghost use Prim.Native.Nat.{_+_, _-_, _≤_, max};
+ghost use mathlib.Core.List.{List, []};
+ghost use Prim.Native.Nat.{ℕ, _+_, _-_, _≤_, max};
 ghost use lib.IntN.{pos};
 ghost use lib.ListN.{length, getD};
 ghost use Rattle.ratio.specs.Refusal.{zeroR};
+ghost use Rattle.ratio.specs.declared.Ratio.{Ratio};
 ghost use Rattle.terms.specs.Poly.{termsOf, polyOf, trim};
-ghost use Rattle.terms.specs.Machine.{plain, stepOf, wholeR};
+ghost use Rattle.terms.specs.Machine.{plus, minus, plain, stepOf, wholeR};
 ghost use Rattle.terms.specs.Work.{zipped, scaled, derived, rowed};
 ghost use Rattle.terms.specs.Answer.{doneWith, refusedWith, answerOf, opIf, negatedOf, productOf, valueOf, rowOf, rowOver, rowGiven};
 
@@ -194,7 +195,7 @@ impl Poly {
         let mut i: usize = 0;
         while i < n {
             let x = self.coeffs[i];
-            let row = add_row(acc, i, x, other, false, steps);
+            let row = add_row(acc, i, x, other, steps);
             if !row.fine {
                 return refused(Reason::CoeffOverflow, row.steps);
             }
@@ -293,10 +294,10 @@ pub struct Row {
     pub steps: u64,
 }
 
-// acc with x times b added, or subtracted, from place k on.
-fn add_row(acc: [Ratio; 32], k: usize, x: Ratio, b: Poly, subtract: bool, steps: u64) -> Row
+// acc with x times b added, from place k on.
+fn add_row(acc: [Ratio; 32], k: usize, x: Ratio, b: Poly, steps: u64) -> Row
     requires { ⌜ (k + length (termsOf b) ≤ 32) × (steps ≤ 65536) ⌝ }
-    ensures { λ r. ⌜ r ≡ rowOf (rowed plain (opIf subtract) acc k x (termsOf b) steps) ⌝ }
+    ensures { λ r. ⌜ r ≡ rowOf (rowed plain plus acc k x (termsOf b) steps) ⌝ }
 {
     let m = b.length();
     let mut out = acc;
@@ -308,7 +309,7 @@ fn add_row(acc: [Ratio; 32], k: usize, x: Ratio, b: Poly, subtract: bool, steps:
             return row_refused(count + 1);
         };
         let old = out[k + j];
-        let Step::Done(s) = combine(subtract, old, t) else {
+        let Step::Done(s) = ratio::checked_add(old, t) else {
             return row_refused(count + 2);
         };
         out[k + j] = s;
@@ -319,6 +320,51 @@ fn add_row(acc: [Ratio; 32], k: usize, x: Ratio, b: Poly, subtract: bool, steps:
         fine: true,
         acc: out,
         steps: count,
+    }
+}
+
+// -x. The number -2^63 has none and stays, since no step takes it.
+fn negative(x: Ratio) -> Ratio
+    ensures { λ r. ⌜ ((acc b : List Ratio) (k n : ℕ) → rowed plain plus acc k r b n ≡ rowed plain minus acc k x b n) ⌝ }
+{
+    let n = x.num;
+    if n == -9223372036854775808 {
+        x
+    } else {
+        Ratio {
+            num: -n,
+            den: x.den,
+        }
+    }
+}
+
+// acc with x times b subtracted: the row of -x is added. It is a loop of its own, so that neither row is copied into a call.
+fn sub_row(acc: [Ratio; 32], k: usize, x: Ratio, b: Poly, steps: u64) -> Row
+    requires { ⌜ (k + length (termsOf b) ≤ 32) × (steps ≤ 65536) ⌝ }
+    ensures { λ r. ⌜ r ≡ rowOf (rowed plain minus acc k x (termsOf b) steps) ⌝ }
+{
+    let y = negative(x);
+    let m = b.length();
+    let mut out = acc;
+    let mut made = steps;
+    let mut j: usize = 0;
+    while j < m {
+        let c = b.coeffs[j];
+        let Step::Done(t) = ratio::checked_mul(y, c) else {
+            return row_refused(made + 1);
+        };
+        let old = out[k + j];
+        let Step::Done(s) = ratio::checked_add(old, t) else {
+            return row_refused(made + 2);
+        };
+        out[k + j] = s;
+        made += 2;
+        j += 1;
+    }
+    Row {
+        fine: true,
+        acc: out,
+        steps: made,
     }
 }
 
@@ -333,8 +379,10 @@ pub fn row_for(acc: [Ratio; 32], k: usize, x: Ratio, b: Poly, subtract: bool, st
         row_refused(0)
     } else if steps > 65536 {
         row_refused(0)
+    } else if subtract {
+        sub_row(acc, k, x, b, steps)
     } else {
-        add_row(acc, k, x, b, subtract, steps)
+        add_row(acc, k, x, b, steps)
     }
 }
 

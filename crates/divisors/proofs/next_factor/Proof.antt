@@ -31,7 +31,9 @@ next-mark-requires : tie.Need-next-mark-requires
 next-mark-requires c κs = search needs
 
 first-entry-requires : tie.Need-first-entry-requires
-first-entry-requires c κs = omega (arith, mark-le (c .before .before .before .before .before .before .before .args .marks .now) (65536 - (c .before .before .before .before .before .before .before .args .at / 4 + 1)) (c .before .before .before .before .before .before .before .args .at / 4 + 1), c .next-mark .ensures)
+first-entry-requires c κs =
+    let s = c .before .before .before .before .before .before .before .args in
+    omega (arith, mark-le (s .size) (s .marks .now) (65536 - (s .at / 4 + 1)) (s .at / 4 + 1), c .next-mark .ensures)
 
 returns : tie.Need-returns
 returns c = walked-both (next-zero _ _ _ (c .before .if1 .taken) (c .if2 .taken))
@@ -59,7 +61,7 @@ returns-6 c =
     let s = w .before .before .before .before in
     walked-both
     (c .first-entry .ensures
-    ∙ ap firstOf (c .before .next-mark .ensures ∙ ap (λ k. markFrom (s .args .marks .now) k (s .args .at / 4 + 1)) (let e : 65536 - (s .args .at / 4 + 1) ≡ 65535 - s .args .at / 4 = omega arith in e))
+    ∙ ap firstOf (c .before .next-mark .ensures ∙ ap (λ k. markFrom (s .args .size) (s .args .marks .now) k (s .args .at / 4 + 1)) (let e : 65536 - (s .args .at / 4 + 1) ≡ 65535 - s .args .at / 4 = omega arith in e))
     ∙ next-after _ (s .args .size) (s .args .at) (w .before .before .before .if1 .left) (w .before .before .if3 .left) (w .before .if4 .left) (sym (w .entry-here .ensures) ∙ c .before .before .enum-told .given .1))
 
 pub next-factor-spec : {M : Type 1} → statement M

@@ -5,21 +5,21 @@ use native.Mathlib.Omega.{arith}
 use lib.ListN.{length, getD, length-set}
 use borrow.Author.Needs.{needs}
 use Rattle.ratio.specs.Refusal.{zeroR}
-use Rattle.ratio.specs.Step.{mulOf}
+use Rattle.ratio.specs.Step.{addOf, mulOf}
 use Rattle.terms.specs.Poly.{termsOf}
-use Rattle.terms.specs.Machine.{stepOf}
-use Rattle.terms.specs.Answer.{opIf, rowOf}
+use Rattle.terms.specs.Machine.{plus}
+use Rattle.terms.specs.Answer.{rowOf}
 use Rattle.terms.proofs.Lists.{long, past, getD-any, read-terms}
 use Rattle.terms.proofs.Rows.{Added, added-none, added-more, product-over, sum-over, added-all}
 use Rattle.terms.proofs.add_row.Statement.{statement}
 use Rattle.terms.proofs.add_row.Tie as tie
 
 abbrev Inv-loop : tie.InvT-loop
-Inv-loop k x subtract steps b m out₀ count₀ j₀ out count j =
-    (k + m ≤ 32) × (steps ≤ 65536) × (m ≡ length (termsOf b)) × (j ≤ m) × (count ≡ steps + 2 * j) × (length out ≡ 32) × Added (opIf subtract) out₀ k x (termsOf b) steps j count out
+Inv-loop k x steps b m out₀ count₀ j₀ out count j =
+    (k + m ≤ 32) × (steps ≤ 65536) × (m ≡ length (termsOf b)) × (j ≤ m) × (count ≡ steps + 2 * j) × (length out ≡ 32) × Added plus out₀ k x (termsOf b) steps j count out
 
 abbrev μ-loop : tie.MeasureT-loop
-μ-loop k x subtract steps b m out₀ count₀ j₀ out count j = m - j
+μ-loop k x steps b m out₀ count₀ j₀ out count j = m - j
 
 length-requires : tie.Need-length-requires Inv-loop μ-loop
 length-requires c κs = tt
@@ -27,7 +27,7 @@ length-requires c κs = tt
 loop-holds : tie.Need-loop-holds Inv-loop μ-loop
 loop-holds c =
     let s = c .before .args in
-    (omega (arith, c .length .ensures, c .before .pre), omega arith, c .length .ensures, omega arith, omega arith, search (needs, long), added-none (opIf (s .subtract)) (s .acc) (s .k) (s .x) (termsOf (s .t4)) (s .steps))
+    (omega (arith, c .length .ensures, c .before .pre), omega arith, c .length .ensures, omega arith, omega arith, search (needs, long), added-none plus (s .acc) (s .k) (s .x) (termsOf (s .t4)) (s .steps))
 
 mul-c : tie.Need-mul-c Inv-loop μ-loop
 mul-c c = omega arith
@@ -63,7 +63,7 @@ returns c =
     let l = m .before .before .before in
     let s = l .before .before .args in
     c .row-refused .ensures
-    ∙ ap rowOf (product-over (opIf (s .subtract)) (s .acc) (s .k) (s .x) (termsOf (s .t4)) (s .steps) (l .loop .j) (l .loop .count) (l .loop .out) (omega arith) (l .loop .inv .6) _ (product m ∙ c .before .enum-told .given .1))
+    ∙ ap rowOf (product-over plus (s .acc) (s .k) (s .x) (termsOf (s .t4)) (s .steps) (l .loop .j) (l .loop .count) (l .loop .out) (omega arith) (l .loop .inv .6) _ (product m ∙ c .before .enum-told .given .1))
 
 add-old : tie.Need-add-old Inv-loop μ-loop
 add-old c = omega arith
@@ -74,15 +74,15 @@ mul-old c = omega arith
 array-copy-out-old : tie.Need-array-copy-out-old Inv-loop μ-loop
 array-copy-out-old c = omega arith
 
-combine-requires : tie.Need-combine-requires Inv-loop μ-loop
-combine-requires c κs = tt
+checked-add-requires : tie.Need-checked-add-requires Inv-loop μ-loop
+checked-add-requires c κs = tt
 
-added : (c : tie.After-combine Inv-loop μ-loop) →
-    stepOf (opIf (c .before .before .before .before .before .before .before .before .before .before .args .subtract)) (getD (c .before .before .before .before .before .before .before .before .loop .out) (c .before .before .before .before .before .before .before .before .before .before .args .k + c .before .before .before .before .before .before .before .before .loop .j) zeroR) (c .before .before .before .t .given .0 .0) ≡ c .combine .result
+added : (c : tie.After-checked-add Inv-loop μ-loop) →
+    addOf (getD (c .before .before .before .before .before .before .before .before .loop .out) (c .before .before .before .before .before .before .before .before .before .before .args .k + c .before .before .before .before .before .before .before .before .loop .j) zeroR) (c .before .before .before .t .given .0 .0) ≡ c .checked-add .result
 added c =
     let l = c .before .before .before .before .before .before .before .before in
     let s = l .before .before .args in
-    sym (rw (getD-any (l .loop .out) (s .k + l .loop .j) past zeroR (omega (arith, l .loop .inv))) at (c .combine .ensures))
+    sym (rw (getD-any (l .loop .out) (s .k + l .loop .j) past zeroR (omega (arith, l .loop .inv))) at (c .checked-add .ensures .0))
 
 enum-known-s : tie.Need-enum-known-s Inv-loop μ-loop
 enum-known-s c = search needs
@@ -103,7 +103,7 @@ returns-2 c =
     let l = m .before .before .before in
     let s = l .before .before .args in
     c .row-refused2 .ensures
-    ∙ ap rowOf (sum-over (opIf (s .subtract)) (s .acc) (s .k) (s .x) (termsOf (s .t4)) (s .steps) (l .loop .j) (l .loop .count) (l .loop .out) (omega arith) (l .loop .inv .6) _ _ (product m ∙ a .before .before .before .t .given .1) (added a ∙ c .before .enum-told2 .given .1))
+    ∙ ap rowOf (sum-over plus (s .acc) (s .k) (s .x) (termsOf (s .t4)) (s .steps) (l .loop .j) (l .loop .count) (l .loop .out) (omega arith) (l .loop .inv .6) _ _ (product m ∙ a .before .before .before .t .given .1) (added a ∙ c .before .enum-told2 .given .1))
 
 add-out : tie.Need-add-out Inv-loop μ-loop
 add-out c = omega arith
@@ -135,14 +135,14 @@ loop-again c =
       omega arith,
       omega arith,
       length-set (l .loop .out) (s .k + l .loop .j) _ ∙ l .loop .inv .5,
-      added-more (opIf (s .subtract)) (s .acc) (s .k) (s .x) (termsOf (s .t4)) (s .steps) (l .loop .j) (l .loop .count) (l .loop .out) (omega arith) (l .loop .inv .6) _ _ (product m ∙ a .before .before .before .t .given .1) (added a ∙ c .before .s .given .1),
+      added-more plus (s .acc) (s .k) (s .x) (termsOf (s .t4)) (s .steps) (l .loop .j) (l .loop .count) (l .loop .out) (omega arith) (l .loop .inv .6) _ _ (product m ∙ a .before .before .before .t .given .1) (added a ∙ c .before .s .given .1),
     )
 
 returns-3 : tie.Need-returns-3 Inv-loop μ-loop
 returns-3 c =
     let l = c .before in
     let s = l .before .before .args in
-    ap rowOf (added-all (opIf (s .subtract)) (s .acc) (s .k) (s .x) (termsOf (s .t4)) (s .steps) (l .loop .j) (l .loop .count) (l .loop .out) (omega arith) (l .loop .inv .6))
+    ap rowOf (added-all plus (s .acc) (s .k) (s .x) (termsOf (s .t4)) (s .steps) (l .loop .j) (l .loop .count) (l .loop .out) (omega arith) (l .loop .inv .6))
 
 pub add-row-spec : {M : Type 1} → statement M
 add-row-spec =
@@ -163,7 +163,7 @@ add-row-spec =
     add-old
     mul-old
     array-copy-out-old
-    combine-requires
+    checked-add-requires
     enum-known-s
     enum-told-2
     add-row-refused-2

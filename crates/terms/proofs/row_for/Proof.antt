@@ -1,10 +1,14 @@
 -- `terms::row_for` meets its contract: what `add_row` requires is tested.
-use mathlib.Core.Path.{_≡_, _∙_}
+use mathlib.Core.Path.{_≡_, sym, ap, _∙_}
+use mathlib.Core.Bool.{Bool}
 use Prim.Native.Nat.{ℕ, _+_, _≤_, _<_}
 use native.Mathlib.Omega.{arith}
 use lib.ListN.{length, take, length-take}
 use borrow.Author.Needs.{needs}
 use Rattle.terms.specs.Poly.{termsOf}
+use Rattle.terms.specs.Machine.{plain}
+use Rattle.terms.specs.Work.{rowed}
+use Rattle.terms.specs.Answer.{opIf, rowOf}
 use Rattle.terms.proofs.Lists.{long, within-32}
 use Rattle.terms.proofs.Product.{row-wide, row-late, row-given}
 use Rattle.terms.proofs.row_for.Statement.{statement}
@@ -29,8 +33,11 @@ row-refused-requires-2 c κs = search needs
 row-refused-requires-3 : tie.Need-row-refused-requires-3
 row-refused-requires-3 c κs = search needs
 
+sub-row-requires : tie.Need-sub-row-requires
+sub-row-requires c κs = (omega (arith, c .before .before .before .before .length .ensures), omega arith)
+
 add-row-requires : tie.Need-add-row-requires
-add-row-requires c κs = (omega (arith, c .before .before .before .length .ensures), omega arith)
+add-row-requires c κs = (omega (arith, c .before .before .before .before .length .ensures), omega arith)
 
 returns : tie.Need-returns
 returns c =
@@ -49,8 +56,19 @@ returns-3 c =
 
 returns-4 : tie.Need-returns-4
 returns-4 c =
-    let s = c .before .before .before .before .before .args in
-    c .add-row .ensures ∙ row-given (s .k) (s .acc) (s .x) (termsOf (s .b)) (s .subtract) (s .steps) (omega (arith, c .before .before .before .before .length .ensures)) (omega arith)
+    let l = c .before .before .before .before .before in
+    let s = l .before .args in
+    c .sub-row .ensures
+    ∙ ap (λ (t : Bool). rowOf (rowed plain (opIf t) (s .acc) (s .k) (s .x) (termsOf (s .b)) (s .steps))) (sym (c .before .if4 .taken))
+    ∙ row-given (s .k) (s .acc) (s .x) (termsOf (s .b)) (s .subtract) (s .steps) (omega (arith, l .length .ensures)) (omega arith)
+
+returns-5 : tie.Need-returns-5
+returns-5 c =
+    let l = c .before .before .before .before .before in
+    let s = l .before .args in
+    c .add-row .ensures
+    ∙ ap (λ (t : Bool). rowOf (rowed plain (opIf t) (s .acc) (s .k) (s .x) (termsOf (s .b)) (s .steps))) (sym (c .before .if4 .left))
+    ∙ row-given (s .k) (s .acc) (s .x) (termsOf (s .b)) (s .subtract) (s .steps) (omega (arith, l .length .ensures)) (omega arith)
 
 pub row-for-spec : {M : Type 1} → statement M
 row-for-spec =
@@ -61,8 +79,10 @@ row-for-spec =
     add-if2
     row-refused-requires-2
     row-refused-requires-3
+    sub-row-requires
     add-row-requires
     returns
     returns-2
     returns-3
-    returns-4)
+    returns-4
+    returns-5)
