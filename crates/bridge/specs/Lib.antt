@@ -1,0 +1,5 @@
+pub mod Refusal
+pub mod Value
+pub mod Round
+pub mod Search
+pub mod Promise
