@@ -2,9 +2,9 @@
 use mathlib.Core.Path.{_≡_, refl, sym, _∙_, ap, subst}
 use mathlib.Core.Logic.{_≢_}
 use mathlib.Core.List.{[], _∷_}
-use Prim.Native.Nat.{ℕ, _≤_, _<_, _+_ as _+ⁿ_}
+use Prim.Native.Nat.{ℕ, zero, suc, _≤_, _<_, _+_ as _+ⁿ_, _*_ as _*ⁿ_}
 use native.Mathlib.Omega.{arith}
-use Rattle.algebra.proofs.Ring.{CRing, Domain, by1, by2, nil-mul, sub-nil, mul-ne}
+use Rattle.algebra.proofs.Ring.{CRing, Domain, pow, by1, by2, nil-mul, sub-nil, mul-ne}
 use Rattle.algebra.proofs.Reflect.{ring!, reify}
 use Rattle.algebra.proofs.Series.{Below}
 use Rattle.algebra.proofs.Poly.{Poly, addP, mulP, negP, nilP, conP, Poly-ring}
@@ -25,6 +25,14 @@ module _ {A : Type 0} (D : Domain A) where
 
   pub deg-scaled : (c : A) (p : Poly R) (n : ℕ) → c ≢ R .nil → HasDeg R p n → HasDeg R (mulP R (conP R c) p) n
   deg-scaled c p n h d = subst (HasDeg R (mulP R (conP R c) p)) (omega arith) (deg-mul (conP R c) p 0 n (deg-con R c h) d)
+
+  -- the degree of a power
+  pub deg-pow : (p : Poly R) (n k : ℕ) → HasDeg R p n → HasDeg R (pow (Poly-ring R) p k) (k *ⁿ n)
+  unfolding pow
+  deg-pow p n zero d = let none : 0 ≡ 0 *ⁿ n = omega arith in subst (HasDeg R (conP R (R .one))) none (deg-con R (R .one) (D .proper))
+  deg-pow p n (suc k) d =
+      let more : k *ⁿ n +ⁿ n ≡ suc k *ⁿ n = omega arith in
+      subst (HasDeg R (mulP R (pow (Poly-ring R) p k) p)) more (deg-mul (pow (Poly-ring R) p k) p (k *ⁿ n) n (deg-pow p n k d) d)
 
   pub no-zero-div : (p q : Poly R) → q ≢ nilP R → mulP R p q ≡ nilP R → p ≡ nilP R
   no-zero-div p q h e = go (size D p) (size D q)

@@ -140,6 +140,9 @@ pub record Opened (p : Poly) : Type 0 where
   pub few : length (termsOf p) ≤ 32
   pub unused : drop (p .len) (p .coeffs) ≡ replicate (length (drop (p .len) (p .coeffs))) zeroR
 
+pub opened-lowest : (p : Poly) → doorOf p ≡ Open → allLowest (termsOf p) ≡ true
+opened-lowest p e = and-true (allLowest (termsOf p)) _ (open-if (isCanonical p) (long-if (ltb 32 (p .len)) (openIf (isCanonical p)) e .1)) .0
+
 pub opened : (p : Poly) → doorOf p ≡ Open → Opened p
 opened p e =
     let f = long-if (ltb 32 (p .len)) (openIf (isCanonical p)) e in

@@ -10,13 +10,15 @@ use lib.Dec.{ltb}
 use lib.ListN.{length, getD, take, length-take}
 use lib.Seq.{getD-take}
 use Rattle.algebra.specs.Textbook.{IsDivision}
-use Rattle.algebra.proofs.Ring.{pow, pow-zero, pow-suc, by1, by2}
+use Rattle.algebra.proofs.Ring.{pow, pow-zero, pow-suc, nil-mul, by1, by2}
 use Rattle.algebra.proofs.Reflect.{ring!, reify}
-use Rattle.algebra.proofs.Rational.{ℚ, ℚ-ring, ℚ-field, _+ℚ_, _*ℚ_, -ℚ_, 0ℚ, 1ℚ, invℚ}
+use Rattle.algebra.proofs.Rational.{ℚ, ℚ-ring, ℚ-domain, ℚ-field, _+ℚ_, _*ℚ_, -ℚ_, 0ℚ, 1ℚ, invℚ}
 use Rattle.algebra.proofs.Series.{Below}
-use Rattle.algebra.proofs.Poly.{negP, conP, Poly-ring, poly-ext, add-at, neg-at}
+use Rattle.algebra.proofs.Poly.{nilP, negP, conP, Poly-ring, poly-ext, add-at, neg-at}
 use Rattle.algebra.proofs.Monomials.{X, monP, mon-is, mon-mul-at}
 use Rattle.algebra.proofs.Degree.{HasDeg}
+use Rattle.algebra.proofs.Divides.{Dvd}
+use Rattle.algebra.proofs.PolyDomain.{short-multiple}
 use Rattle.algebra.proofs.Lists.{ℚP, _+P_, _*P_, poly-cons, poly-empty}
 use Rattle.algebra.proofs.ListWords.{division-to, division-from, lower-from}
 use Rattle.ratio.specs.Promise.{rat, Lowest}
@@ -34,7 +36,7 @@ use Rattle.terms.proofs.Meaning.{polyR, polyR-at, polyR-below, polyR-trim}
 use Rattle.terms.proofs.MeaningStep.{both-answered, same-answer, times-value, made-lowest}
 use Rattle.terms.proofs.MeaningProduct.{rowed-length, rowed-means}
 use Rattle.terms.proofs.MeaningLowest.{AllLowest, cons-lowest, take-lowest, rowed-lowest}
-use Rattle.terms.proofs.MeaningCanonical.{Canonical, trim-canonical, empty-canonical, top-some, canonical-degree}
+use Rattle.terms.proofs.MeaningCanonical.{Canonical, trim-canonical, empty-canonical, top-some, canonical-degree, canonical-nil}
 use Rattle.remainders.specs.Divide.{Split, split, quotients, dividedIf, divided, lead}
 use Rattle.terms.proofs.Lists.{trim-short}
 
@@ -197,3 +199,17 @@ cons-some x l e = let z : _≡_ {A = ℕ} 0 1 = cc in omega arith
 pub divided-means : (a b : List Ratio) → Canonical a → Canonical b → (b ≡ [] → ⊥) → (k k′ : ℕ) (s : Split Ratio) → divided plain a b k ≡ fine k′ s → Divided a b s
 divided-means a [] ca cb some k k′ s e = absurd (some refl)
 divided-means a (y ∷ ys) ca cb some k k′ s e = divided-by y ys cb a ca k k′ s e
+
+-- where b divides a, nothing remains
+pub divided-exact : (a b : List Ratio) (s : Split Ratio) → Canonical b → (b ≡ [] → ⊥) → Divided a b s → Dvd (Poly-ring ℚ-ring) (polyR b) (polyR a) → s .rest ≡ []
+divided-exact a [] s cb some d z = absurd (some refl)
+divided-exact a (y ∷ ys) s cb some d (k, e) =
+    let q : ℚP = polyR (s .quotient) in
+    let r : ℚP = polyR (s .rest) in
+    let b : ℚP = polyR (y ∷ ys) in
+    let n : length (s .rest) ≤ length ys = omega (arith, d .shorter) in
+    let left : (k +P negP ℚ-ring q) *P b ≡ r = by2 (Poly-ring ℚ-ring) (conP ℚ-ring 1ℚ) (divided-poly a (y ∷ ys) s d) (negP ℚ-ring (conP ℚ-ring 1ℚ)) e
+    (ring! (Poly-ring ℚ-ring) (k ∷ q ∷ r ∷ b ∷ polyR a ∷ []) (search reify depth 30 fits 20000) tt) in
+    let none : k +P negP ℚ-ring q ≡ nilP ℚ-ring = short-multiple ℚ-domain (k +P negP ℚ-ring q) b (length ys) (canonical-degree y ys cb)
+    (subst (λ z. Below ℚ-ring (length ys) (z .0)) (sym left) (λ i h. polyR-below (s .rest) i (omega arith))) in
+    canonical-nil (s .rest) (d .rest-canonical) (sym left ∙ ap (λ z. z *P b) none ∙ nil-mul (Poly-ring ℚ-ring) b)

@@ -63,7 +63,7 @@ quotient-part f g q p some e d m = record {
         )
 
 -- where nothing remains, quotient and divisor are the factors
-nothing-remains : (f g q : List Ratio) → polyR f ≡ polyR g *P polyR q +P polyR [] → polyR f ≡ polyR q *P polyR g
+pub nothing-remains : (f g q : List Ratio) → polyR f ≡ polyR g *P polyR q +P polyR [] → polyR f ≡ polyR q *P polyR g
 nothing-remains f g q e = by2 (Poly-ring ℚ-ring) (conP ℚ-ring 1ℚ) e (conP ℚ-ring 1ℚ) poly-empty
     (ring! (Poly-ring ℚ-ring) (polyR f ∷ polyR g ∷ polyR q ∷ polyR [] ∷ []) (search reify depth 30 fits 20000) tt)
 

@@ -66,6 +66,14 @@ monic-means x u c n n′ g e =
       canonical = degree-canonical g (length u) (scaled-lowest (x ∷ u) r n n′ g e) (scaled-length (x ∷ u) r n n′ g e) (monic-deg ℚ-domain (polyR g) m);
     }
 
+-- u is c times g again
+pub monic-back : (u g : List Ratio) (m : MonicOf u g) → polyR u ≡ conP ℚ-ring (m .lead) *P polyR g
+monic-back u g m =
+    let c : ℚP = conP ℚ-ring (m .lead) in
+    let i : ℚP = conP ℚ-ring (invℚ (m .lead)) in
+    by2 (Poly-ring ℚ-ring) (negP ℚ-ring (polyR u)) (con-unit ℚ-field (m .lead) (m .lead-ne)) (negP ℚ-ring c) (m .is)
+    (ring! (Poly-ring ℚ-ring) (c ∷ i ∷ polyR u ∷ polyR g ∷ []) (search reify depth 30 fits 20000) tt)
+
 -- ---- Euclid's loop
 
 -- g is a common divisor of u and v, and a combination of them
@@ -84,11 +92,7 @@ last u g m =
     let c : ℚP = conP ℚ-ring (m .lead) in
     let i : ℚP = conP ℚ-ring (invℚ (m .lead)) in
     record {
-      divides-u = (
-        c,
-        by2 (Poly-ring ℚ-ring) (negP ℚ-ring (polyR u)) (con-unit ℚ-field (m .lead) (m .lead-ne)) (negP ℚ-ring c) (m .is)
-            (ring! (Poly-ring ℚ-ring) (c ∷ i ∷ polyR u ∷ polyR g ∷ []) (search reify depth 30 fits 20000) tt),
-      );
+      divides-u = (c, monic-back u g m);
       divides-v = (nilP ℚ-ring, poly-empty ∙ sym (nil-mul (Poly-ring ℚ-ring) (polyR g)));
       left = i;
       right = nilP ℚ-ring;

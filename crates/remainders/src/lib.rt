@@ -172,8 +172,8 @@ fn later(r: Answer, steps: u64) -> Answer
 }
 
 // Scaled so that the leading coefficient is 1; zero stays zero.
-fn monic(p: Poly) -> Answer
-    ensures { λ r. ⌜ r ≡ answerOf (monicOf plain (termsOf p) 0) ⌝ }
+pub fn monic(p: Poly) -> Answer
+    ensures is { λ r. ⌜ r ≡ answerOf (monicOf plain (termsOf p) 0) ⌝ }
 {
     p.scale(inverse(lead(p)))
 }

@@ -1,0 +1,68 @@
+-- The list of factors in its array: what is in use, and one more.
+use mathlib.Core.Path.{_≡_, refl, sym, ap, _∙_}
+use mathlib.Core.List.{List, [], _∷_, _++_, append-assoc}
+use Prim.Native.Nat.{ℕ, suc, _+_, _-_, _<_, _≤_}
+use native.Mathlib.Omega.{arith}
+use lib.ListN.{length, set, replicate, length-append, length-replicate}
+use lib.Seq.{take-append-seam, set-append-seam}
+use Rattle.ratio.specs.declared.Ratio.{Ratio}
+use Rattle.terms.specs.declared.Poly.{Poly}
+use Rattle.terms.specs.Poly.{termsOf, polyOf}
+use Rattle.yun.specs.declared.Piece.{Piece}
+use Rattle.yun.specs.declared.Decomposition.{Decomposition}
+use Rattle.yun.specs.Got.{Got, got, none}
+use Rattle.yun.specs.Round.{piece, pushed}
+use Rattle.yun.specs.Answer.{noPiece, piecesOf, foundAll, decompositionOf, Held}
+
+pub found-pieces : (l : List Piece) → piecesOf (foundAll l) ≡ l
+found-pieces l = take-append-seam l (replicate (32 - length l) noPiece)
+
+pub held : (l : List Piece) → length l < 32 → Held (foundAll l)
+held l h = record { is = ap foundAll (sym (found-pieces l)); room = rw (found-pieces l) h }
+
+-- the place past the last one in use is one of the array's
+pub held-room : (found : Decomposition) → Held found → found .len < 32
+held-room found h = rw (ap (λ (d : Decomposition). d .len) (h .is)) (h .room)
+
+pub pushed-none : (p : List Ratio) (i : ℕ) (l : List Piece) → length p ≡ 0 → pushed p i l ≡ l
+unfolding pushed
+pushed-none [] i l h = refl
+pushed-none (x ∷ p) i l h = absurd (omega arith)
+
+pub pushed-some : (p : List Ratio) (i : ℕ) (l : List Piece) → 0 < length p → pushed p i l ≡ l ++ (piece p i ∷ [])
+unfolding pushed
+pushed-some [] i l h = absurd (omega arith)
+pushed-some (x ∷ p) i l h = refl
+
+pub pushed-length : (p : List Ratio) (i : ℕ) (l : List Piece) → length (pushed p i l) ≤ suc (length l)
+unfolding pushed
+pushed-length [] i l = omega arith
+pushed-length (x ∷ p) i l = rw length-append (omega arith)
+
+-- the place past the last one in use is filled
+filled : (l : List Piece) (x : Piece) (k m : ℕ) → k ≡ suc m → set (l ++ replicate k noPiece) (length l) x ≡ (l ++ (x ∷ [])) ++ replicate m noPiece
+filled l x k m e = rw (e, append-assoc) (set-append-seam l noPiece (replicate m noPiece) x)
+
+pub one-more : (l : List Piece) (x : Piece) → length l < 32 → _≡_ {A = Decomposition} (record { outcome = foundAll l .outcome; pieces = set (foundAll l .pieces) (foundAll l .len) x; len = foundAll l .len + 1 }) (foundAll (l ++ (x ∷ [])))
+one-more l x h =
+    let n : length (l ++ (x ∷ [])) ≡ length l + 1 = length-append l (x ∷ []) in
+    rw (filled l x (32 - length l) (32 - (length l + 1)) (omega arith), n)
+
+pub push-done : (found : Decomposition) (p : Poly) (i : ℕ) → Held found → p ≡ polyOf (termsOf p) → 0 < length (termsOf p)
+    → _≡_ {A = Decomposition} (record { outcome = found .outcome; pieces = set (found .pieces) (found .len) (record { poly = p; times = i }); len = found .len + 1 }) (foundAll (pushed (termsOf p) i (piecesOf found)))
+push-done found p i h e s =
+    let x : Piece = record { poly = p; times = i } in
+    ap {B = Decomposition} (λ (d : Decomposition). record { outcome = d .outcome; pieces = set (d .pieces) (d .len) x; len = d .len + 1 }) (h .is)
+    ∙ one-more (piecesOf found) x (h .room)
+    ∙ ap (λ (q : Poly). foundAll (piecesOf found ++ (record { poly = q; times = i } ∷ []))) e
+    ∙ ap foundAll (sym (pushed-some (termsOf p) i (piecesOf found) s))
+
+pub push-none : (found : Decomposition) (p : List Ratio) (i : ℕ) → Held found → length p ≡ 0 → found ≡ foundAll (pushed p i (piecesOf found))
+push-none found p i h e = h .is ∙ ap foundAll (sym (pushed-none p i (piecesOf found) e))
+
+-- the array never cuts
+pub pieces-within : (s : Got (List Piece)) (r : Decomposition) → r ≡ decompositionOf s → length (r .pieces) ≡ 32 → r .len ≤ 32
+pieces-within (got l) r e h =
+    let n = simp (length-append, length-replicate) at (sym (ap (λ (d : Decomposition). length (d .pieces)) e) ∙ h) in
+    rw e (omega arith)
+pieces-within (none why) r e h = rw e (omega arith)

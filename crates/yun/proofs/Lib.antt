@@ -1,0 +1,10 @@
+pub mod CodeGot
+pub mod CodeFound
+pub mod CodeTurn
+pub mod CodeRounds
+pub mod CodeSplit
+pub mod MeaningRound
+pub mod MeaningPieces
+pub mod MeaningTurn
+pub mod MeaningYun
+pub mod MeaningAnswer
