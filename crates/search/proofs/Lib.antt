@@ -1,0 +1,16 @@
+pub mod CodeArray
+pub mod CodeClear
+pub mod CodeStrip
+pub mod PriceTry
+pub mod CodeTally
+pub mod CodeValue
+pub mod CodeInsert
+pub mod CodeAnswer
+pub mod Kept
+pub mod MeaningTry
+pub mod MeaningClear
+pub mod MeaningStrip
+pub mod MeaningRoots
+pub mod MeaningAnswer
+pub mod PriceListing
+pub mod PriceSearch
