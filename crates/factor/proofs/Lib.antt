@@ -1,0 +1,4 @@
+pub mod Works
+pub mod Products
+pub mod Promises
+pub mod Rebuilds

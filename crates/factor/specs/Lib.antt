@@ -1,0 +1,3 @@
+pub mod Factors
+pub mod Rebuild
+pub mod Promise

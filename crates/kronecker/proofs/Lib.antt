@@ -1,0 +1,5 @@
+pub mod Points
+pub mod Rows
+pub mod Repeats
+pub mod Trials
+pub mod Found

@@ -1,0 +1,4 @@
+pub mod Points
+pub mod Combinations
+pub mod Interpolation
+pub mod Split

@@ -1,0 +1,9 @@
+pub mod Places
+pub mod Peels
+pub mod Halves
+pub mod Shorter
+pub mod Onto
+pub mod MeaningParts
+pub mod MeaningPeel
+pub mod MeaningSplit
+pub mod MeaningAll

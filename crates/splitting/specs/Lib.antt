@@ -1,0 +1,3 @@
+pub mod Peel
+pub mod Pair
+pub mod Split

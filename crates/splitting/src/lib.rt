@@ -1,0 +1,271 @@
+// Splitting by rational roots and by Kronecker's method, total on any value (document 01, module 5; `split_into_irreducibles` of the original's factor.rs).
+// Nothing here tests whether a polynomial is canonical; the crate `factor` stands in front of this and makes the test once.
+use kronecker::Verdict;
+use ratio::Outcome;
+use ratio::Ratio;
+use ratio::Reason;
+use ratio::Step;
+use search::Roots;
+use terms::Answer;
+use terms::Poly;
+use yun::Decomposition;
+use yun::Piece;
+ghost use mathlib.Core.Path.{_≡_};
+ghost use mathlib.Core.Bool.{false};
+ghost use mathlib.Core.List.{[]};
+ghost use lib.ListN.{length};
+ghost use Rattle.terms.specs.Poly.{termsOf};
+ghost use Rattle.yun.specs.Answer.{foundAll, piecesOf, decompositionOf};
+ghost use Rattle.splitting.specs.Peel.{added, lineAnswer, rootsIn, start, peelOne, peeled, leftOf, stoppedFor};
+ghost use Rattle.splitting.specs.Pair.{Padded, PaddedPair, pairOf, pairedBy, pairFrom};
+ghost use Rattle.splitting.specs.Split.{Kept, Splits, splitAll};
+
+// What was found so far, and what is left to split; a refusal stands in `found`.
+struct Left {
+    found: Decomposition,
+    rest: Poly,
+}
+
+// Two factors, where there are two.
+struct Pair {
+    outcome: Outcome,
+    two: bool,
+    factor: Poly,
+    quotient: Poly,
+}
+
+// p found as often as `times` says, where there is a place left for it.
+fn add(found: Decomposition, p: Poly, times: u64) -> Decomposition
+    requires { ⌜ Kept found × Padded p ⌝ }
+    ensures { λ r. ⌜ r ≡ foundAll (added (termsOf p) times (piecesOf found)) ⌝ }
+{
+    let n = found.len;
+    if n >= 32 {
+        return found;
+    }
+    let mut out = found;
+    out.pieces[n] = Piece { poly: p, times };
+    out.len = n + 1;
+    out
+}
+
+// ---- rational roots
+
+// x less r.
+fn line(r: Ratio) -> Answer
+    ensures { λ a. ⌜ a ≡ lineAnswer r ⌝ }
+{
+    let Step::Done(n) = ratio::checked_neg(r) else {
+        return terms::refused(Reason::CoeffOverflow, 0);
+    };
+    let mut p = Poly::zero();
+    p.coeffs[0] = n;
+    p.coeffs[1] = Ratio { num: 1, den: 1 };
+    p.len = 2;
+    terms::done(p, 0)
+}
+
+fn stopped(why: Reason) -> Left
+    ensures { λ l. ⌜ l ≡ stoppedFor why ⌝ }
+{
+    Left {
+        found: yun::refused(why),
+        rest: Poly::zero(),
+    }
+}
+
+// x less r is divided out where that leaves no rest.
+fn peel_one(found: Decomposition, f: Poly, r: Ratio, times: u64) -> Left
+    requires { ⌜ Kept found × Padded f ⌝ }
+    ensures { λ l. ⌜ l ≡ leftOf (peelOne times r (start (piecesOf found) (termsOf f))) ⌝ }
+{
+    let a = line(r);
+    let oa = a.outcome;
+    if let Outcome::Refused(why) = oa {
+        return stopped(why);
+    }
+    let x = a.poly;
+    let d = remainders::divide(f, x);
+    let od = d.outcome;
+    if let Outcome::Refused(why) = od {
+        return stopped(why);
+    }
+    let rest = d.rest;
+    if rest.length() > 0 {
+        return Left { found, rest: f };
+    }
+    let q = d.quotient;
+    Left {
+        found: add(found, x, times),
+        rest: q,
+    }
+}
+
+// How many roots there are.
+fn count(roots: Roots) -> usize
+    ensures { λ n. ⌜ n ≡ length (rootsIn roots) ⌝ }
+{
+    let n = roots.len;
+    if n < 32 { n } else { 32 }
+}
+
+fn peel(found: Decomposition, f: Poly, roots: Roots, times: u64) -> Left
+    requires { ⌜ Kept found × Padded f ⌝ }
+    ensures { λ l. ⌜ l ≡ leftOf (peeled times (rootsIn roots) (start (piecesOf found) (termsOf f))) ⌝ }
+{
+    let n = count(roots);
+    let mut now = found;
+    let mut rest = f;
+    let mut i: usize = 0;
+    while i < n {
+        let r = roots.values[i];
+        let l = peel_one(now, rest, r, times);
+        now = l.found;
+        rest = l.rest;
+        let o = now.outcome;
+        if let Outcome::Refused(why) = o {
+            return stopped(why);
+        }
+        i += 1;
+    }
+    Left { found: now, rest }
+}
+
+// ---- Kronecker's method
+
+fn no_pair(outcome: Outcome) -> Pair
+    ensures { λ p. ⌜ PaddedPair p × (p .outcome ≡ outcome) × (p .two ≡ false) ⌝ }
+{
+    Pair {
+        outcome,
+        two: false,
+        factor: Poly::zero(),
+        quotient: Poly::zero(),
+    }
+}
+
+// The factor g and what it leaves of f, where that is of degree 1 or more.
+fn divide_by(f: Poly, g: Poly) -> Pair
+    requires { ⌜ Padded g ⌝ }
+    ensures { λ p. ⌜ (pairFrom p ≡ pairedBy (termsOf f) (termsOf g)) × PaddedPair p ⌝ }
+{
+    let d = remainders::divide(f, g);
+    let o = d.outcome;
+    if let Outcome::Refused(why) = o {
+        return no_pair(Outcome::Refused(why));
+    }
+    let rest = d.rest;
+    if rest.length() > 0 {
+        return no_pair(Outcome::Done);
+    }
+    let q = d.quotient;
+    if q.length() < 2 {
+        return no_pair(Outcome::Done);
+    }
+    Pair {
+        outcome: Outcome::Done,
+        two: true,
+        factor: g,
+        quotient: q,
+    }
+}
+
+// Kronecker's method, for degrees 3 to 6.
+fn halve(f: Poly, budget: u64) -> Pair
+    ensures { λ p. ⌜ (pairFrom p ≡ pairOf (termsOf f) budget) × PaddedPair p ⌝ }
+{
+    let n = f.length();
+    if n < 4 {
+        return no_pair(Outcome::Done);
+    }
+    if n > 7 {
+        return no_pair(Outcome::Done);
+    }
+    let s = kronecker::try_split(f, budget);
+    let v = s.verdict;
+    let g = s.factor;
+    match v {
+        Verdict::Found => divide_by(f, g),
+        Verdict::Next => no_pair(Outcome::Done),
+        Verdict::NoSplit => no_pair(Outcome::Done),
+        Verdict::Refused(why) => no_pair(Outcome::Refused(why)),
+    }
+}
+
+// ---- splitting
+
+// f split into factors, found as often as `times` says; each call works on a lower degree.
+fn split(found: Decomposition, f: Poly, times: u64, budget: u64) -> Decomposition
+    requires { ⌜ Kept found × Padded f ⌝ }
+    ensures { λ r. ⌜ Splits (termsOf f) times budget (piecesOf found) r ⌝ }
+{
+    let n = f.length();
+    if n < 2 {
+        return found;
+    }
+    if n == 2 {
+        return add(found, f, times);
+    }
+    let roots = search::roots_of(f, budget);
+    let ro = roots.outcome;
+    if let Outcome::Refused(why) = ro {
+        return yun::refused(why);
+    }
+    if roots.len > 0 {
+        let l = peel(found, f, roots, times);
+        let lf = l.found;
+        let rest = l.rest;
+        let lo = lf.outcome;
+        if let Outcome::Refused(_) = lo {
+            return lf;
+        }
+        if rest.length() < n {
+            return split(lf, rest, times, budget);
+        }
+        return add(lf, rest, times);
+    }
+    let p = halve(f, budget);
+    let po = p.outcome;
+    if let Outcome::Refused(why) = po {
+        return yun::refused(why);
+    }
+    if !p.two {
+        return add(found, f, times);
+    }
+    let g = p.factor;
+    let q = p.quotient;
+    let a = split(found, g, times, budget);
+    let ao = a.outcome;
+    if let Outcome::Refused(_) = ao {
+        return a;
+    }
+    split(a, q, times, budget)
+}
+
+// Every factor of a decomposition is split; the multiplicities are kept.
+pub fn split_all(d: Decomposition, budget: u64) -> Decomposition
+    ensures is { λ r. ⌜ r ≡ decompositionOf (splitAll (piecesOf d) budget []) ⌝ }
+{
+    let n = size(d);
+    let mut found = yun::nothing();
+    let mut i: usize = 0;
+    while i < n {
+        let piece = d.pieces[i];
+        let p = piece.poly;
+        let next = split(found, p.normalise(), piece.times, budget);
+        let o = next.outcome;
+        if let Outcome::Refused(_) = o {
+            return next;
+        }
+        found = next;
+        i += 1;
+    }
+    found
+}
+
+fn size(d: Decomposition) -> usize
+    ensures { λ n. ⌜ n ≡ length (piecesOf d) ⌝ }
+{
+    let n = d.len;
+    if n < 32 { n } else { 32 }
+}
