@@ -1,0 +1,93 @@
+-- `chain::follow` meets its contract. The loop's invariant: what is left of the chain, behind what is found, gives the whole of it.
+use mathlib.Core.Path.{ap, _∙_}
+use native.Mathlib.Omega.{arith}
+use lib.ListN.{length}
+use Rattle.terms.specs.Poly.{termsOf}
+use Rattle.chain.specs.declared.Chain.{Chain}
+use Rattle.chain.proofs.CodeFollow.{Going, going-none, going-end, going-room, going-refused, going-short, going-more}
+use Rattle.chain.proofs.follow.Statement.{statement}
+use Rattle.chain.proofs.follow.Tie as tie
+
+abbrev Inv-loop : tie.InvT-loop
+Inv-loop out₀ a₀ b₀ out a b = Going (termsOf a₀) (termsOf b₀) out (termsOf a) b
+
+abbrev μ-loop : tie.MeasureT-loop
+μ-loop out₀ a₀ b₀ out a b = length (termsOf b)
+
+empty-requires : tie.Need-empty-requires Inv-loop μ-loop
+empty-requires c κs = tt
+
+push-requires : tie.Need-push-requires Inv-loop μ-loop
+push-requires c κs = omega (arith, ap (λ (x : Chain). x .len) (c .empty .ensures))
+
+loop-holds : tie.Need-loop-holds Inv-loop μ-loop
+loop-holds c =
+    let e = c .before in
+    let s = e .before .args in
+    let r = e .before .pre in
+    going-none (s .p) (s .d) (e .empty .result) (c .push .result) (r .0) (r .1) (r .2) (e .empty .ensures) (c .push .ensures)
+
+length-requires : tie.Need-length-requires Inv-loop μ-loop
+length-requires c κs = tt
+
+push-requires-2 : tie.Need-push-requires-2 Inv-loop μ-loop
+push-requires-2 c κs =
+    let l = c .before .before in
+    let s = l .before .before .before .args in
+    going-room (termsOf (s .p)) (termsOf (s .d)) (l .loop .out) (termsOf (l .loop .a)) (l .loop .b) (l .loop .inv) (omega (arith, c .before .length .ensures))
+
+next-requires : tie.Need-next-requires Inv-loop μ-loop
+next-requires c κs = tt
+
+enum-known-o : tie.Need-enum-known-o Inv-loop μ-loop
+enum-known-o c = c .match .keys1
+
+refused-requires : tie.Need-refused-requires Inv-loop μ-loop
+refused-requires c κs = tt
+
+returns : tie.Need-returns Inv-loop μ-loop
+returns c =
+    let l = c .before .before .before .before .before .before .before .before in
+    let s = l .before .before .before .args in
+    c .refused .ensures ∙ going-refused (termsOf (s .p)) (termsOf (s .d)) (l .loop .out) (termsOf (l .loop .a)) (l .loop .b) (l .loop .inv) (omega (arith, c .before .before .before .before .before .before .before .length .ensures)) (c .before .before .before .before .next .result) (c .before .before .before .before .next .ensures) _ (c .before .before .o .given .1)
+
+enum-told : tie.Need-enum-told Inv-loop μ-loop
+enum-told c = c .match .keys2
+
+loop-less : tie.Need-loop-less Inv-loop μ-loop
+loop-less c =
+    let l = c .before .before .before .before .before .before .before in
+    let s = l .before .before .before .args in
+    going-short (termsOf (s .p)) (termsOf (s .d)) (l .loop .out) (termsOf (l .loop .a)) (l .loop .b) (l .loop .inv) (omega (arith, c .before .before .before .before .before .before .length .ensures)) (c .before .before .before .next .result) (c .before .before .before .next .ensures) (c .before .enum-told .given .1)
+
+loop-again : tie.Need-loop-again Inv-loop μ-loop
+loop-again c =
+    let l = c .before .before .before .before .before .before .before in
+    let s = l .before .before .before .args in
+    going-more (termsOf (s .p)) (termsOf (s .d)) (l .loop .out) (termsOf (l .loop .a)) (l .loop .b) (l .loop .inv) (omega (arith, c .before .before .before .before .before .before .length .ensures)) (c .before .before .before .next .result) (c .before .before .before .next .ensures) (c .before .before .before .before .push2 .result) (c .before .before .before .before .push2 .ensures) (c .before .enum-told .given .1)
+
+returns-2 : tie.Need-returns-2 Inv-loop μ-loop
+returns-2 c =
+    let l = c .before .before in
+    let s = l .before .before .before .args in
+    going-end (termsOf (s .p)) (termsOf (s .d)) (l .loop .out) (termsOf (l .loop .a)) (l .loop .b) (l .loop .inv) (omega (arith, c .before .length .ensures))
+
+pub follow-spec : {M : Type 1} → statement M
+follow-spec =
+    tie.close
+    (tie.spec
+    Inv-loop
+    μ-loop
+    empty-requires
+    push-requires
+    loop-holds
+    length-requires
+    push-requires-2
+    next-requires
+    enum-known-o
+    refused-requires
+    returns
+    enum-told
+    loop-less
+    loop-again
+    returns-2)

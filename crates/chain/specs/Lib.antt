@@ -1,0 +1,4 @@
+pub mod Next
+pub mod Sequence
+pub mod Answer
+pub mod Promise

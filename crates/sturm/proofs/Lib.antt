@@ -1,0 +1,7 @@
+pub mod Values
+pub mod Tests
+pub mod Signs
+pub mod Counts
+pub mod Few
+pub mod Chains
+pub mod Promises

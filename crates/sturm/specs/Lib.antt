@@ -1,0 +1,6 @@
+pub mod Value
+pub mod Sign
+pub mod Changes
+pub mod Along
+pub mod Count
+pub mod Promise
