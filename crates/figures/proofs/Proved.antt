@@ -1,18 +1,45 @@
--- Document 01's figures marked P hold: each by computing the definitions.
-use mathlib.Core.Path.{refl}
-use Rattle.ratio.specs.Step.{addOf, subOf, mulOf, invOf, lowest}
+-- Document 01's figures marked P hold: each by computing the definitions; the listings of 1 and 2 by the law that they end at the root.
+use mathlib.Core.Path.{_≡_, refl}
+use mathlib.Core.List.{[], _∷_}
+use native.Mathlib.Omega.{arith}
+use lib.IntN.{pos, negsuc}
+use Rattle.ratio.specs.Step.{addOf, subOf, mulOf, negOf, invOf, newOf, cmpOf, lowest}
 use Rattle.ratio.specs.Gcd as G
+use Rattle.divisors.specs.Listing.{listFrom, factorsOf}
+use Rattle.divisors.specs.Marks.{listingOf}
 use Rattle.terms.specs.Poly.{dropTop}
-use Rattle.terms.specs.Work.{each, scaled, derived, rowed}
+use Rattle.terms.specs.Work.{each, zipped, scaled, derived, rowed, valued}
+use Rattle.terms.specs.Answer.{negatedOf}
 use Rattle.poly.specs.Door.{allLowest, allUnused}
 use Rattle.remainders.specs.Divide.{quotients, divided}
 use Rattle.remainders.specs.Gcd.{monic, gcdBy, gcdOf}
 use Rattle.remainders.specs.Resultant.{powered, ordered, resultantOf, discriminantOf}
 use Rattle.remainders.specs.Answer.{dividedOf}
+use Rattle.search.specs.Clear.{widened, multipleFrom, clearedOne, clearedBy}
+use Rattle.search.specs.Strip.{zeros}
+use Rattle.search.specs.Keep.{placed, inserted}
+use Rattle.search.specs.Try.{tryOne, tryRow, tryAll}
+use Rattle.search.specs.Answer.{searchedIn, rootsFor}
+use Rattle.roots.specs.Content.{contentFrom}
+use Rattle.roots.proofs.Listed.{factors-upto}
+use Rattle.yun.specs.Got.{partsOf}
+use Rattle.yun.specs.Round.{pushed, ended, factorOf, cutBy, met, turnOf}
+use Rattle.yun.specs.Yun.{rounds, splitBy, splitOf, squareFrees}
+use Rattle.splitting.specs.Peel.{added}
+use Rattle.splitting.specs.Split.{splitOnto, splitAll}
+use Rattle.factor.specs.Factors.{splitParts}
 use Rattle.figures.specs.Figures.{Figures}
 
+factors-1 : factorsOf 1 ≡ pos 1 ∷ negsuc 0 ∷ []
+unfolding listFrom
+factors-1 = factors-upto 0 1 (omega arith) (omega arith)
+
+factors-2 : factorsOf 2 ≡ pos 1 ∷ negsuc 0 ∷ pos 2 ∷ negsuc 1 ∷ []
+unfolding listFrom
+factors-2 = factors-upto 1 1 (omega arith) (omega arith)
+
 pub proved : Figures
-unfolding addOf subOf mulOf invOf lowest G.gcdOf G.gcdBy dropTop each scaled derived rowed allLowest allUnused quotients divided monic gcdBy gcdOf powered ordered resultantOf discriminantOf dividedOf
+unfolding addOf subOf mulOf negOf invOf newOf cmpOf lowest G.gcdOf G.gcdBy dropTop each zipped scaled derived rowed valued negatedOf allLowest allUnused quotients divided monic gcdBy gcdOf powered ordered resultantOf discriminantOf dividedOf listingOf widened multipleFrom clearedOne clearedBy zeros placed inserted tryOne tryRow tryAll searchedIn rootsFor contentFrom partsOf pushed ended factorOf cutBy met turnOf rounds splitBy splitOf squareFrees added splitOnto splitAll splitParts
 proved = record {
   gcd-steps = refl;
   gcd-quote = refl;
@@ -25,4 +52,7 @@ proved = record {
   sum-too-large = refl;
   zero-by-zero = refl;
   gcd-of-zeros = refl;
+  roots-cubic = rw factors-2;
+  roots-with-zero = rw factors-1;
+  factor-linear = refl;
 }

@@ -15,6 +15,17 @@ use Rattle.euclid.specs.Quote.{gcdQuote, resultantQuote}
 use Rattle.euclid.specs.declared.Price.the-variants.{Steps}
 use Rattle.euclid.specs.declared.Whole.{Whole}
 use mathlib.Core.Bool.{true}
+use mathlib.Core.List.{List, _++_}
+use lib.ListN.{replicate}
+use Rattle.ratio.specs.declared.Outcome.the-variants as O
+use Rattle.terms.specs.Machine.{fine}
+use Rattle.search.specs.declared.Roots.{Roots}
+use Rattle.search.specs.Answer.{answered}
+use Rattle.roots.specs.Answer.{rationalRootsOf}
+use Rattle.yun.specs.Answer.{noPiece}
+use Rattle.yun.specs.Round.{piece}
+use Rattle.factor.specs.declared.Factorization.{Factorization}
+use Rattle.factor.specs.Factors.{factorFor}
 
 abbrev pub ratio : ℤ → ℤ → Ratio
 ratio n d = record { num = n; den = d }
@@ -25,6 +36,9 @@ one = wholeR (pos 1)
 -- the polynomial of three whole coefficients, of two, of one, of none; they rise
 abbrev pub square : ℤ → ℤ → ℤ → Poly
 square a b c = polyOf (wholeR a ∷ wholeR b ∷ wholeR c ∷ [])
+
+abbrev pub cubic : ℤ → ℤ → ℤ → ℤ → Poly
+cubic a b c d = polyOf (wholeR a ∷ wholeR b ∷ wholeR c ∷ wholeR d ∷ [])
 
 abbrev pub linear : ℤ → ℤ → Poly
 linear a b = polyOf (wholeR a ∷ wholeR b ∷ [])
@@ -38,6 +52,14 @@ zero = polyOf []
 -- a whole number at a number of steps
 abbrev pub number : ℤ → ℕ → Whole
 number n k = wholeIf true n k
+
+-- these roots, after so many candidates and steps
+abbrev pub roots : List Ratio → ℕ → ℕ → Roots
+roots l tried steps = answered (fine (record { tried = tried; steps = steps }) l)
+
+-- this content and one factor, once
+abbrev pub onceWith : Ratio → List Ratio → Factorization
+onceWith c l = record { outcome = O.Done; content = c; pieces = (piece l 1 ∷ []) ++ replicate 31 noPiece; len = 1 }
 
 pub record Figures : Type 0 where
   -- the gcd of x^2 - 1 and x^2 - 3x + 2 is x - 1 and takes 7 + 10 + 2 = 19 steps, quote 24
@@ -56,3 +78,8 @@ pub record Figures : Type 0 where
   -- 0 divided by 0 gives 3; gcd(0, 0) is 0
   pub zero-by-zero : outcomeStatus (divRemOf zero zero .outcome) ≡ 3
   pub gcd-of-zeros : gcdFor zero zero ≡ doneWith zero 0
+  -- the roots of 2x^3 - 3x^2 - 3x + 2 are -1, 1/2, 2; of x^3 - x: -1, 0, 1
+  pub roots-cubic : rationalRootsOf (cubic (pos 2) (negsuc 2) (negsuc 2) (pos 2)) 65536 ≡ roots (wholeR (negsuc 0) ∷ ratio (pos 1) (pos 2) ∷ wholeR (pos 2) ∷ []) 16 192
+  pub roots-with-zero : rationalRootsOf (cubic (pos 0) (negsuc 0) (pos 0) (pos 1)) 65536 ≡ roots (wholeR (negsuc 0) ∷ wholeR (pos 0) ∷ wholeR (pos 1) ∷ []) 4 36
+  -- the factors of 2x + 1: content 1, one factor x + 1/2
+  pub factor-linear : factorFor (linear (pos 1) (pos 2)) 65536 ≡ onceWith one (ratio (pos 1) (pos 2) ∷ one ∷ [])

@@ -73,6 +73,24 @@ fn value_of_x(at: i64) {
     io::write_all(STDOUT_FILENO, b"\n");
 }
 
+// The rational root of x less a whole number.
+fn root(at: i64) {
+    let nums: [i64; 2] = [at, 1];
+    let dens: [i64; 2] = [1, 1];
+    let p = poly::from_parts(&nums, &dens);
+    let r = roots::rational_roots(p.poly, 65536);
+    io::write_all(STDOUT_FILENO, b"root of x +");
+    show(at);
+    io::write_all(STDOUT_FILENO, b": status ");
+    io::print_decimal(STDOUT_FILENO, status(r.outcome));
+    if r.len > 0 {
+        let v = r.values[0];
+        io::write_all(STDOUT_FILENO, b",");
+        show(v.num);
+    }
+    io::write_all(STDOUT_FILENO, b"\n");
+}
+
 fn main() {
     listing(8, 2);
     listing(9, 2);
@@ -81,4 +99,6 @@ fn main() {
     listing(0, 1);
     value_of_x(3037000499);
     value_of_x(3037000500);
+    root(-3037000499);
+    root(-3037000500);
 }
