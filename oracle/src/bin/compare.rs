@@ -34,7 +34,8 @@ const OPS: [Op; 18] = [
     Op { number: 18, name: "primitive", counted: false, most: 12 },
 ];
 
-const NOT_LANDED: &str = "count, isolate, the float bridge, expressions, job texts, the program";
+const NOT_COMPARED: &str =
+    "the float bridge, the count of real roots and expressions (landed, not in the library `calls` yet); isolate, job texts, the program (not landed)";
 
 /// What was found of one operation.
 #[derive(Default)]
@@ -210,7 +211,7 @@ fn main() {
     println!("seed {seed}, {random} random inputs an operation, {} short polynomials exhaustively", cases::short(3).len());
     let mut shown = 0;
     let differ = single_steps(&mut shown) + polynomials(seed, random, &mut shown);
-    println!("not landed, not compared: {NOT_LANDED}");
+    println!("not compared: {NOT_COMPARED}");
     println!("{differ} differ");
     std::process::exit((differ > 0) as i32);
 }
