@@ -39,12 +39,12 @@ use Rattle.sturm.proofs.Few.{changes-few}
 
 -- ---- the square-free part, of zero too
 
-record Part (p f : List Ratio) : Type 0 where
+pub record Part (p f : List Ratio) : Type 0 where
   pub is : (p ≡ [] → ⊥) → SquareFreePart p f
   pub canonical : Canonical f
   pub short : length f ≤ length p
 
-part-means : (p : List Ratio) → Canonical p → (k : ℕ) (f : List Ratio) → squareFree plain p 0 ≡ fine k f → Part p f
+pub part-means : (p : List Ratio) → Canonical p → (k : ℕ) (f : List Ratio) → squareFree plain p 0 ≡ fine k f → Part p f
 unfolding squareFree
 part-means [] c k f e = subst (Part []) (same-answer 0 k [] f e) (record { is = λ some. absurd (some refl); canonical = empty-canonical; short = omega arith })
 part-means (a ∷ p) c k f e =

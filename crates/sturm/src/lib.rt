@@ -155,8 +155,9 @@ fn inside(x: f64) -> bool
     if x >= -1e15 { x <= 1e15 } else { false }
 }
 
-fn ends(lo: f64, hi: f64) -> Gate
-    ensures { λ r. ⌜ r ≡ endsOf lo hi ⌝ }
+// Whether both ends are within ±1e15.
+pub fn ends(lo: f64, hi: f64) -> Gate
+    ensures is { λ r. ⌜ r ≡ endsOf lo hi ⌝ }
 {
     if !inside(lo) {
         Gate::Bad

@@ -35,7 +35,7 @@ const OPS: [Op; 18] = [
 ];
 
 const NOT_COMPARED: &str =
-    "the float bridge, the count of real roots and expressions (landed, not in the library `calls` yet); isolate, job texts, the program (not landed)";
+    "the float bridge, the count and the isolation of real roots, expressions (landed, not in the library `calls` yet); job texts, the program (not landed)";
 
 /// What was found of one operation.
 #[derive(Default)]

@@ -10,7 +10,7 @@ use std::hint::black_box;
 use std::time::Instant;
 
 const ROUND_NANOS: f64 = 4e6;
-const NOT_MEASURED: &str = "count (landed, not in the library `calls` yet); isolate, one whole job from text to text (not landed)";
+const NOT_MEASURED: &str = "count, isolate (landed, not in the library `calls` yet); one whole job from text to text (not landed)";
 
 fn whole(l: &[i64]) -> Parts {
     parts(&l.iter().map(|&n| (n, 1)).collect::<Vec<_>>())

@@ -1,0 +1,6 @@
+pub mod Hold
+pub mod Cuts
+pub mod Inner
+pub mod Outer
+pub mod Prices
+pub mod Refusals

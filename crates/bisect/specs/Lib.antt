@@ -1,0 +1,4 @@
+pub mod Bracket
+pub mod Cut
+pub mod Bisect
+pub mod Price

@@ -1,0 +1,5 @@
+pub mod Hold
+pub mod Slides
+pub mod Walks
+pub mod Ways
+pub mod Promises

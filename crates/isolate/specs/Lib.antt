@@ -1,0 +1,5 @@
+pub mod Answer
+pub mod Sorted
+pub mod Apart
+pub mod Isolate
+pub mod Promise

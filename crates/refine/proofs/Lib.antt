@@ -1,0 +1,3 @@
+pub mod Finite
+pub mod Halvings
+pub mod Chosen
