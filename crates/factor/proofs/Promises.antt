@@ -55,6 +55,7 @@ use Rattle.splitting.proofs.MeaningAll.{Refined, split-all-means, part-degree, 
 use Rattle.factor.specs.declared.Factorization.{Factorization}
 use Rattle.factor.specs.Factors.{gotIn, gotOf, splitParts, factorsOf, noFactors, factorsWith, withContent, workOf, decompositionFor, factorFor}
 use Rattle.factor.specs.Promise.{IsPart, Factors, FactorPromise, DecompositionPromise}
+use Rattle.factor.proofs.Occurs.{Occurs, parts-occur}
 
 -- ---- what was got
 
@@ -208,12 +209,16 @@ module _ (p : Poly) (budget : ℕ) (o : Opened p) (l : List Piece) (e : splitPar
       parts : Every IsPart l
       parts = every-map Part IsPart part-is l (refined .parts)
 
+      occur : Occurs l
+      occur = parts-occur budget (second .value) l (pieces .promise .rising) (second .then)
+
     degree-p : (n : ℕ) × HasDeg ℚ-ring (polyR (termsOf p)) n × (length (termsOf p) ≡ suc n)
     degree-p = terms-some (termsOf p) (λ z. some (zero-from (reading p) (ap polyR z ∙ poly-empty))) (o .canonical)
 
     pub factors-meant : Factors (reading p) l
     factors-meant = record {
       parts = parts (degree-p .0) (degree-from (reading p) (degree-p .0) (degree-p .1));
+      occur = occur (degree-p .0) (degree-from (reading p) (degree-p .0) (degree-p .1));
       multiply = multiplies;
       add-up = adds;
     }
@@ -242,7 +247,7 @@ module _ (p : Poly) (budget : ℕ) (o : Opened p) where
   work-promise (S.Done c) f = list-promise c f (splitParts p budget) refl
   work-promise (S.Refused why) f = refused-promise p BadInput
 
-factor-promise : (p : Poly) (budget : ℕ) → FactorPromise p (factorFor p budget)
+pub factor-promise : (p : Poly) (budget : ℕ) → FactorPromise p (factorFor p budget)
 factor-promise p budget =
     entered-keeps noFactors (FactorPromise p) (both (doorOf p) (budgetDoor budget)) (workOf p budget)
     (λ e. work-promise p budget (opened p (both-open (doorOf p) (budgetDoor budget) e .0)) (contentFor p) refl)

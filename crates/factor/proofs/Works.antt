@@ -45,9 +45,11 @@ module _ (p : Poly) (budget : ℕ) (a : Answer) (e : a ≡ primitiveOf p) where
   primitive-refused why o = ap decompositionOf (next-by (none why) (first-none why o))
 
   module _ (o : a .outcome ≡ O.Done) (d : Decomposition) (f : d ≡ decompositionOf (squareFrees (termsOf (a .poly)))) where
-    pub decomposition-refused : (why : Reason) → d .outcome ≡ O.Refused why → refusedFor why ≡ factorsOf p budget
+    pub decomposition-refused : (why : Reason) → d .outcome ≡ O.Refused why → d ≡ factorsOf p budget
     decomposition-refused why u =
-        ap decompositionOf (ap (λ (t : Got (List Piece)). thenGot t (λ l. splitAll l budget [])) (sym (list-none d (squareFrees (termsOf (a .poly))) why f u)) ∙ next-by (got (termsOf (a .poly))) (first-got o))
+        f
+        ∙ ap decompositionOf (list-none d (squareFrees (termsOf (a .poly))) why f u)
+        ∙ ap decompositionOf (ap (λ (t : Got (List Piece)). thenGot t (λ l. splitAll l budget [])) (sym (list-none d (squareFrees (termsOf (a .poly))) why f u)) ∙ next-by (got (termsOf (a .poly))) (first-got o))
 
     pub all-split : d .outcome ≡ O.Done → (r : Decomposition) → r ≡ decompositionOf (splitAll (piecesOf d) budget []) → r ≡ factorsOf p budget
     all-split u r h =

@@ -29,6 +29,7 @@ pub record IsPart (p : Piece) : Type 0 where
 -- the factors of a polynomial f that is not zero
 pub record Factors (f : List Rat) (l : List Piece) : Type 0 where
   pub parts : Every IsPart l
+  pub occur : Every (λ p. 1 ≤ p .times) l
   pub multiply : (n : ℕ) → HasDegree f n → Equal f (scaled (coeff f n) (powers l))
   pub add-up : (n : ℕ) → HasDegree f n → degrees l ≡ n
 

@@ -14,7 +14,6 @@ ghost use lib.ListN.{length};
 ghost use Rattle.terms.specs.Poly.{termsOf, polyOf, trim};
 ghost use Rattle.splitting.specs.Pair.{Padded};
 ghost use Rattle.poly.specs.Promise.{Gives};
-ghost use Rattle.roots.specs.Answer.{budgetDoor};
 ghost use Rattle.factor.specs.Factors.{decompositionFor, noFactors, factorsOf, workOf, factorFor};
 ghost use Rattle.factor.specs.Promise.{FactorPromise, DecompositionPromise, rebuiltAs};
 ghost use Rattle.factor.specs.Rebuild.{answerFrom, refusedFrom, raised, factorsIn, rebuilt, rebuildFor};
@@ -37,19 +36,6 @@ pub fn square_free_decomposition(f: Poly) -> Decomposition
         yun::decompose(f)
     } else {
         yun::refused(poly::reason(d))
-    }
-}
-
-// Document 01's limits of a budget.
-fn door_of_budget(budget: u64) -> Gate
-    ensures { λ d. ⌜ d ≡ budgetDoor budget ⌝ }
-{
-    if budget == 0 {
-        Gate::Bad
-    } else if budget > 65536 {
-        Gate::Bad
-    } else {
-        Gate::Open
     }
 }
 
@@ -79,8 +65,8 @@ fn split_primitive(p: Poly, budget: u64) -> Decomposition
     let q = a.poly;
     let d = yun::decompose(q);
     let od = d.outcome;
-    if let Outcome::Refused(why) = od {
-        return yun::refused(why);
+    if let Outcome::Refused(_) = od {
+        return d;
     }
     splitting::split_all(d, budget)
 }
@@ -110,7 +96,7 @@ pub fn factor(p: Poly, budget: u64) -> Factorization
     ensures is { λ r. ⌜ r ≡ factorFor p budget ⌝ }
     ensures promise { λ r. ⌜ FactorPromise p r ⌝ }
 {
-    let d = poly::both(poly::door(p), door_of_budget(budget));
+    let d = poly::both(poly::door(p), roots::door_of_budget(budget));
     if let Gate::Open = d {
         factor_terms(p, budget)
     } else {

@@ -47,52 +47,60 @@ getD-map f (x ∷ l) (suc i) d = getD-map f l i d
 pub rows-read : (n : ℕ) (l : Combinations) (i : ℕ) (d : Combination) → i < l .len → rowOf n (getD (l .rows) i d) ≡ getD (rowsOf n l) i (rowOf n d)
 rows-read n l i d h = sym (getD-map (rowOf n) (take (l .len) (l .rows)) i d ∙ ap (rowOf n) (getD-take (l .len) (l .rows) i d h))
 
--- ---- one combination with each divisor
+-- ---- each combination with each divisor
 
-module _ (start : List (List Ratio)) (c : List Ratio) (all : List ℤ) where
-  pub record Growing (out : List (List Ratio)) (left : List ℤ) : Type 0 where
-    pub whole : grownBy out c left ≡ grownBy start c all
+-- what is full stays as it is
+full-by : (out : List (List Ratio)) (c : List Ratio) (ds : List ℤ) → isFull out ≡ true → grownBy out c ds ≡ out
+unfolding grownBy
+full-by out c [] f = refl
+full-by out c (d ∷ ds) f = rw f
 
-  pub growing-none : Growing start all
-  growing-none = record { whole = refl }
+full-all : (out l : List (List Ratio)) (ds : List ℤ) → isFull out ≡ true → grownAll out l ds ≡ out
+unfolding grownAll
+full-all out [] ds f = refl
+full-all out (c ∷ l) ds f = rw (full-by out c ds f) (full-all out l ds f)
 
-  pub growing-more : (out : List (List Ratio)) (left more : List ℤ) (d : ℤ) → left ≡ d ∷ more → isFull out ≡ false → Growing out left → Growing (out ++ ((c ++ (wholeR d ∷ [])) ∷ [])) more
-  unfolding grownBy
-  growing-more out left more d e f g = record { whole = rw (e, f) at (g .whole) }
+-- the first combination goes on with the divisors that are left, the others with all of them
+abbrev pub growOn : List (List Ratio) → List (List Ratio) → List ℤ → List ℤ → List (List Ratio)
+growOn out [] left ds = out
+growOn out (c ∷ more) left ds = grownAll (grownBy out c left) more ds
 
-  -- the same with the rows as they lie in memory
-  pub growing-step : (n : ℕ) (out r : Combinations) (x : Combination) (y : Ratio) (left more : List ℤ) (d : ℤ) → left ≡ d ∷ more → Stored out → out .len < 100 → take (r .len) (r .rows) ≡ take (out .len) (out .rows) ++ (x ∷ []) → rowOf n x ≡ c ++ (y ∷ []) → y ≡ wholeR d → Growing (rowsOf n out) left → Growing (rowsOf n r) more
-  growing-step n out r x y left more d e s h p q w g =
-      let k : rowsOf n r ≡ rowsOf n out ++ ((c ++ (wholeR d ∷ [])) ∷ []) = rows-more n out r x p ∙ ap (λ (t : List Ratio). rowsOf n out ++ (t ∷ [])) (q ∙ ap (λ (t : Ratio). c ++ (t ∷ [])) w) in
-      rw k (growing-more (rowsOf n out) left more d e (full-no n out s h) g)
-
-  pub growing-end : (out : List (List Ratio)) (left : List ℤ) → left ≡ [] → Growing out left → out ≡ grownBy start c all
-  unfolding grownBy
-  growing-end out left e g = rw e at (g .whole)
-
-  pub growing-full : (out : List (List Ratio)) (left : List ℤ) → isFull out ≡ true → Growing out left → out ≡ grownBy start c all
-  unfolding grownBy
-  growing-full out [] f g = g .whole
-  growing-full out (d ∷ left) f g = rw f at (g .whole)
-
--- ---- one combination after the other
+all-on : (out l : List (List Ratio)) (ds : List ℤ) → growOn out l ds ds ≡ grownAll out l ds
+unfolding grownAll
+all-on out [] ds = refl
+all-on out (c ∷ l) ds = refl
 
 module _ (all : List (List Ratio)) (ds : List ℤ) where
-  pub record Continuing (i : ℕ) (out : List (List Ratio)) : Type 0 where
-    pub whole : grownAll out (drop i all) ds ≡ grownAll [] all ds
+  pub record Growing (i : ℕ) (out : List (List Ratio)) (left : List ℤ) : Type 0 where
+    pub whole : growOn out (drop i all) left ds ≡ grownAll [] all ds
 
-  pub continuing-none : (out : List (List Ratio)) → out ≡ [] → Continuing 0 out
-  continuing-none out e = record { whole = rw e }
+  pub growing-none : (out : List (List Ratio)) → out ≡ [] → Growing 0 out ds
+  growing-none out e = record { whole = rw e (all-on [] all ds) }
 
-  pub continuing-more : (i : ℕ) (out next : List (List Ratio)) (d : List Ratio) → i < length all → next ≡ grownBy out (getD all i d) ds → Continuing i out → Continuing (i + 1) next
-  unfolding grownAll
-  continuing-more i out next d h e g = record { whole = rw (add-one i, e) (rw (drop-cons all i d h) at (g .whole)) }
+  growing-more : (i : ℕ) (out : List (List Ratio)) (left more : List ℤ) (d : ℤ) (e : List Ratio) → i < length all → left ≡ d ∷ more → isFull out ≡ false → Growing i out left → Growing i (out ++ ((getD all i e ++ (wholeR d ∷ [])) ∷ [])) more
+  unfolding grownBy
+  growing-more i out left more d e h p f g = record { whole = rw (drop-cons all i e h) (rw (drop-cons all i e h, p, f) at (g .whole)) }
 
-  pub continuing-all : (i : ℕ) (out : List (List Ratio)) → length all ≤ i → isFull all ≡ false → Continuing i out → out ≡ grown all ds
-  unfolding grownAll grown
-  continuing-all i out h f g =
+  -- the same with the rows as they lie in memory
+  pub growing-step : (n i : ℕ) (out r : Combinations) (c : List Ratio) (x : Combination) (y : Ratio) (left more : List ℤ) (d : ℤ) (e : List Ratio) → i < length all → left ≡ d ∷ more → Stored out → out .len < 100 → take (r .len) (r .rows) ≡ take (out .len) (out .rows) ++ (x ∷ []) → rowOf n x ≡ c ++ (y ∷ []) → c ≡ getD all i e → y ≡ wholeR d → Growing i (rowsOf n out) left → Growing i (rowsOf n r) more
+  growing-step n i out r c x y left more d e h p s l q t u w g =
+      let k : rowsOf n r ≡ rowsOf n out ++ ((getD all i e ++ (wholeR d ∷ [])) ∷ []) = rows-more n out r x q ∙ ap (λ (t : List Ratio). rowsOf n out ++ (t ∷ [])) (t ∙ ap (λ (v : List Ratio). v ++ (y ∷ [])) u ∙ ap (λ (v : Ratio). getD all i e ++ (v ∷ [])) w) in
+      rw k (growing-more i (rowsOf n out) left more d e h p (full-no n out s l) g)
+
+  -- no divisor is left: on to the next combination
+  pub growing-next : (i : ℕ) (out : List (List Ratio)) (left : List ℤ) → i < length all → left ≡ [] → Growing i out left → Growing (i + 1) out ds
+  unfolding grownBy
+  growing-next i out left h p g = record { whole = rw (add-one i, all-on out (drop (suc i) all) ds) (rw (drop-cons all i [] h, p) at (g .whole)) }
+
+  pub growing-full : (i : ℕ) (out : List (List Ratio)) (left : List ℤ) → i < length all → isFull out ≡ true → isFull all ≡ false → Growing i out left → out ≡ grown all ds
+  unfolding grown
+  growing-full i out left h f a g = rw a (rw (drop-cons all i [] h, full-by out (getD all i []) left f, full-all out (drop (suc i) all) ds f) at (g .whole))
+
+  pub growing-all : (i : ℕ) (out : List (List Ratio)) (left : List ℤ) → length all ≤ i → isFull all ≡ false → Growing i out left → out ≡ grown all ds
+  unfolding grown
+  growing-all i out left h a g =
       let e : drop i all ≡ [] = drop-of-length-le all h in
-      rw f (rw e at (g .whole))
+      rw a (rw e at (g .whole))
 
   pub grown-full : isFull all ≡ true → [] ≡ grown all ds
   unfolding grown

@@ -20,7 +20,7 @@ ghost use Rattle.terms.specs.Machine.{wholeR};
 ghost use Rattle.terms.specs.Answer.{valueOf};
 ghost use Rattle.divisors.specs.Walk.{rest};
 ghost use Rattle.kronecker.specs.Points.{pointOf, isWhole, allWhole, surveyed};
-ghost use Rattle.kronecker.specs.Combinations.{Stored, rowsOf, grownBy, grown, gathered, gatheringOf};
+ghost use Rattle.kronecker.specs.Combinations.{Stored, rowsOf, grown, gathered, gatheringOf};
 ghost use Rattle.kronecker.specs.Interpolation.{skip, awayFrom, basisStep, basisOf, partOf, addedPart, interpolatedOf};
 ghost use Rattle.kronecker.specs.Split.{without, isOver, judged, triedOf, triedFrom, triedGathered, triedAt, mostOf, trySplitOf};
 
@@ -158,30 +158,8 @@ fn push(out: Combinations, c: Combination) -> Combinations
     Combinations { rows, len: n + 1 }
 }
 
-// One combination goes on with each divisor, until there are 100.
-fn grow_one(
-    start: Combinations,
-    c: Combination,
-    j: usize,
-    size: u64,
-    marks: &[u64; 1024],
-) -> Combinations
-    requires { ⌜ (j < 7) × Stored start ⌝ }
-    ensures { λ r. ⌜ Stored r × (rowsOf (j + 1) r ≡ grownBy (rowsOf (j + 1) start) (take j (c .values)) (rest size (now (marks .entry)) 0)) ⌝ }
-{
-    let mut out = start;
-    let mut at: usize = 0;
-    while out.len < 100 {
-        let Found::At { value, next } = divisors::next_factor(size, marks, at) else {
-            return out;
-        };
-        out = push(out, longer(c, j, whole(value)));
-        at = next;
-    }
-    out
-}
-
-// Each combination goes on with each divisor. Where 100 were reached before this point, none is left.
+// Each combination goes on with each divisor, until there are 100. Where 100 were reached before this point, none is left.
+// One loop over both, so that no row is copied into a call.
 fn grow(old: Combinations, j: usize, size: u64, marks: &[u64; 1024]) -> Combinations
     requires { ⌜ (j < 7) × Stored old ⌝ }
     ensures { λ r. ⌜ Stored r × (rowsOf (j + 1) r ≡ grown (rowsOf j old) (rest size (now (marks .entry)) 0)) ⌝ }
@@ -192,10 +170,21 @@ fn grow(old: Combinations, j: usize, size: u64, marks: &[u64; 1024]) -> Combinat
         return out;
     }
     let mut i: usize = 0;
+    let mut at: usize = 0;
     while i < n {
-        let c = old.rows[i];
-        out = grow_one(out, c, j, size, marks);
-        i += 1;
+        let m = out.len;
+        if m >= 100 {
+            return out;
+        }
+        let Found::At { value, next } = divisors::next_factor(size, marks, at) else {
+            i += 1;
+            at = 0;
+            continue;
+        };
+        let row = longer(old.rows[i], j, whole(value));
+        out.rows[m] = row;
+        out.len = m + 1;
+        at = next;
     }
     out
 }

@@ -18,8 +18,8 @@ ghost use Rattle.roots.specs.Content.{denominatorOf, contentOf, contentF
 ghost use Rattle.roots.specs.Quote.{rootsQuote};
 
 // Document 01's limits of a budget.
-fn door_of_budget(budget: u64) -> Gate
-    ensures { λ d. ⌜ d ≡ budgetDoor budget ⌝ }
+pub fn door_of_budget(budget: u64) -> Gate
+    ensures is { λ d. ⌜ d ≡ budgetDoor budget ⌝ }
 {
     if budget == 0 {
         Gate::Bad

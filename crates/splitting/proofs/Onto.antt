@@ -6,11 +6,12 @@ use Prim.Native.Nat.{ℕ, zero, suc, _+_, _-_, _<_, _≤_}
 use native.Mathlib.Omega.{arith}
 use borrow.Author.Tests.{lt-ltb, le-ltb, eq-eqb, ne-eqb}
 use native.Mathlib.Numerals.{add-one}
-use lib.ListN.{length, drop, getD, drop-of-length-le}
+use lib.ListN.{length, drop, getD, set, drop-of-length-le}
 use lib.Seq.{drop-cons}
 use Rattle.ratio.specs.declared.Outcome.the-variants as O
 use Rattle.ratio.specs.declared.Ratio.{Ratio}
 use Rattle.ratio.specs.declared.Reason.{Reason}
+use Rattle.terms.specs.declared.Poly.{Poly}
 use Rattle.terms.specs.Poly.{termsOf, trim}
 use Rattle.search.specs.Answer.{rootsOf}
 use Rattle.search.specs.declared.Roots.{Roots}
@@ -23,7 +24,7 @@ use Rattle.splitting.specs.declared.Pair.{Pair}
 use Rattle.splitting.specs.Peel.{added, Peel, start, peeled, rootsIn, leftOf}
 use Rattle.splitting.specs.Pair.{Padded, whole, both, pairOf, pairFrom}
 use Rattle.splitting.specs.Split.{Kept, Splits, splitOnto, splitAll}
-use Rattle.splitting.proofs.Places.{list-got, list-kept, list-none}
+use Rattle.splitting.proofs.Places.{add-full, add-done, list-got, list-kept, list-none}
 use Rattle.splitting.proofs.Peels.{Peeled, peeled-done, peeled-none}
 use Rattle.splitting.proofs.Halves.{pair-is-none, pair-is-whole, pair-is-both}
 use Rattle.splitting.proofs.Shorter.{factor-shorter, quotient-shorter}
@@ -190,6 +191,16 @@ module _ (all : List Piece) (budget : ℕ) where
     splitting-over why o =
         let n = list-none x work why same o in
         same ∙ ap decompositionOf (n ∙ (rw (drop-cons all i z h, n) at (p .whole)))
+
+  -- a linear factor is laid where it belongs
+  module _ (i : ℕ) (d : Decomposition) (z : Piece) (h : i < length all) (p : Splitting i d) (y : Piece) (g : y ≡ getD all i z) (q : Poly) (e : termsOf q ≡ trim (termsOf (y .poly))) (n : length (termsOf q) ≡ 2) where
+    pub splitting-full : 32 ≤ d .len → Splitting (i + 1) d
+    splitting-full l =
+        splitting-more i d z h p y g (termsOf q) e d (splits-line (termsOf q) (y .times) budget d (p .kept) n d (add-full d (termsOf q) (y .times) (p .kept) l)) (ap (λ (x : Decomposition). x .outcome) (p .kept .is))
+
+    pub splitting-line : Padded q → d .len < 32 → Splitting (i + 1) (record { outcome = d .outcome; pieces = set (d .pieces) (d .len) (record { poly = q; times = y .times }); len = d .len + 1 })
+    splitting-line w l =
+        splitting-more i d z h p y g (termsOf q) e _ (splits-line (termsOf q) (y .times) budget d (p .kept) n _ (add-done d q (y .times) (p .kept) w l)) (ap (λ (x : Decomposition). x .outcome) (p .kept .is))
 
   pub splitting-all : (i : ℕ) (d : Decomposition) → length all ≤ i → Splitting i d → d ≡ decompositionOf (splitAll all budget [])
   unfolding splitAll

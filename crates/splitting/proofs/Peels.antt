@@ -1,10 +1,11 @@
 -- Laws of dividing out linear factors: one root, and a loop over the roots.
-use mathlib.Core.Path.{_≡_, refl, sym, ap, ap₂, _∙_}
+use mathlib.Core.Path.{_≡_, refl, sym, ap, ap₂, subst, _∙_}
+use mathlib.Core.Bool.{true, false}
 use mathlib.Core.List.{List, [], _∷_}
 use Prim.Native.Nat.{ℕ, _+_, _-_, _<_, _≤_}
 use native.Mathlib.Numerals.{add-one}
 use native.Mathlib.Omega.{arith}
-use lib.ListN.{length, drop, getD, drop-of-length-le}
+use lib.ListN.{length, drop, getD, set, drop-of-length-le}
 use lib.Seq.{drop-cons}
 use Rattle.ratio.specs.Step.{negOf}
 use Rattle.ratio.specs.declared.Outcome.the-variants as O
@@ -22,13 +23,15 @@ use Rattle.remainders.proofs.CodeAnswer.{done-refused}
 use Rattle.yun.specs.declared.Piece.{Piece}
 use Rattle.yun.specs.declared.Decomposition.{Decomposition}
 use Rattle.yun.specs.Answer.{piecesOf, foundAll}
-use Rattle.yun.specs.Got.{Got, got, none}
+use Rattle.yun.specs.Got.{Got, got, none, thenGot}
 use Rattle.yun.proofs.CodeFound.{found-pieces}
-use Rattle.yun.proofs.CodeGot.{parts-got, parts-none}
+use Rattle.yun.proofs.CodeGot.{parts-got, parts-none, quotient-poly}
 use Rattle.splitting.specs.declared.Left.{Left}
-use Rattle.splitting.specs.Peel.{added, line, lineFrom, lineAnswerOf, lineAnswer, Peel, start, peelIf, peelOne, peeled, leftOf, stoppedFor}
-use Rattle.splitting.specs.Pair.{Padded}
+use Rattle.splitting.specs.declared.Pair.{Pair}
+use Rattle.splitting.specs.Peel.{added, line, lineFrom, lineAnswerOf, lineAnswer, Peel, start, peelIf, peelOne, peeled, leftOf, stoppedFor, peelFrom, PeelsOff}
+use Rattle.splitting.specs.Pair.{Padded, PaddedPair}
 use Rattle.splitting.specs.Split.{Kept}
+use Rattle.splitting.proofs.Places.{kept, added-full, add-done}
 
 -- ---- x less r
 
@@ -49,31 +52,39 @@ line-poly a r e = line-padded a (negOf r) e
 
 -- ---- one root
 
-module _ (times : ℕ) (r : Ratio) (found : List Piece) (f : List Ratio) (a : Answer) (e : a ≡ lineAnswer r) where
-  pub peel-lineless : (why : Reason) → a .outcome ≡ O.Refused why → stoppedFor why ≡ leftOf (peelOne times r (start found f))
-  unfolding peelOne
-  peel-lineless why o = rw (line-none a (negOf r) why e o)
+module _ (r : Ratio) (f : List Ratio) (a : Answer) (e : a ≡ lineAnswer r) where
+  module _ (p : Pair) (w : PaddedPair p) (why : Reason) (s : p .outcome ≡ O.Refused why) where
+    pub peel-lineless : a .outcome ≡ O.Refused why → PeelsOff r f p
+    unfolding peelOne
+    peel-lineless o = record { is = λ times found. rw (s, line-none a (negOf r) why e o); padded = w }
 
   module _ (o : a .outcome ≡ O.Done) (d : Division) (h : d ≡ dividedOf f (termsOf (a .poly))) where
-    pub peel-refused : (why : Reason) → d .outcome ≡ O.Refused why → stoppedFor why ≡ leftOf (peelOne times r (start found f))
+    pub peel-refused : (p : Pair) → PaddedPair p → (why : Reason) → p .outcome ≡ O.Refused why → d .outcome ≡ O.Refused why → PeelsOff r f p
     unfolding peelOne
-    peel-refused why p = rw (line-got a (negOf r) e o, parts-none d f (termsOf (a .poly)) why h p)
+    peel-refused p w why s u = record { is = λ times found. rw (s, line-got a (negOf r) e o, parts-none d f (termsOf (a .poly)) why h u); padded = w }
 
-    rest-left : (l : List Ratio) (q x : List Ratio) → 0 < length l → peelIf l times x q (start found f) ≡ start found f
-    rest-left [] q x s = absurd (omega arith)
-    rest-left (y ∷ l) q x s = refl
+    rest-left : (times : ℕ) (found : List Piece) (l : List Ratio) (q x : List Ratio) → 0 < length l → peelIf l times x q (start found f) ≡ start found f
+    rest-left times found [] q x s = absurd (omega arith)
+    rest-left times found (y ∷ l) q x s = refl
 
-    rest-none : (l : List Ratio) (q x : List Ratio) → length l ≤ 0 → peelIf l times x q (start found f) ≡ start (added x times found) q
-    rest-none [] q x s = refl
-    rest-none (y ∷ l) q x s = absurd (omega arith)
+    rest-none : (times : ℕ) (found : List Piece) (l : List Ratio) (q x : List Ratio) → length l ≤ 0 → peelIf l times x q (start found f) ≡ start (added x times found) q
+    rest-none times found [] q x s = refl
+    rest-none times found (y ∷ l) q x s = absurd (omega arith)
 
-    pub peel-kept : d .outcome ≡ O.Done → 0 < length (termsOf (d .rest)) → _≡_ {A = Left} (record { found = foundAll found; rest = polyOf f }) (leftOf (peelOne times r (start found f)))
-    unfolding peelOne
-    peel-kept p s = rw (line-got a (negOf r) e o, parts-got d f (termsOf (a .poly)) h p, rest-left (termsOf (d .rest)) (termsOf (d .quotient)) (termsOf (a .poly)) s)
+    module _ (u : d .outcome ≡ O.Done) where
+      pub peel-kept : (p : Pair) → PaddedPair p → p .outcome ≡ O.Done → p .two ≡ false → 0 < length (termsOf (d .rest)) → PeelsOff r f p
+      unfolding peelOne
+      peel-kept p w s t z = record {
+        is = λ times found. rw (s, t, line-got a (negOf r) e o, parts-got d f (termsOf (a .poly)) h u, rest-left times found (termsOf (d .rest)) (termsOf (d .quotient)) (termsOf (a .poly)) z);
+        padded = w;
+      }
 
-    pub peel-done : d .outcome ≡ O.Done → length (termsOf (d .rest)) ≤ 0 → _≡_ {A = Left} (record { found = foundAll (added (termsOf (a .poly)) times found); rest = polyOf (termsOf (d .quotient)) }) (leftOf (peelOne times r (start found f)))
-    unfolding peelOne
-    peel-done p s = rw (line-got a (negOf r) e o, parts-got d f (termsOf (a .poly)) h p, rest-none (termsOf (d .rest)) (termsOf (d .quotient)) (termsOf (a .poly)) s)
+      pub peel-done : length (termsOf (d .rest)) ≤ 0 → PeelsOff r f (record { outcome = O.Done; two = true; factor = a .poly; quotient = d .quotient })
+      unfolding peelOne
+      peel-done z = record {
+        is = λ times found. rw (line-got a (negOf r) e o, parts-got d f (termsOf (a .poly)) h u, rest-none times found (termsOf (d .rest)) (termsOf (d .quotient)) (termsOf (a .poly)) z);
+        padded = record { factor = line-poly a r e; quotient = record { is = quotient-poly d f (termsOf (a .poly)) h } };
+      }
 
 -- ---- root after root
 
@@ -117,16 +128,30 @@ module _ (times : ℕ) (all : List Ratio) (first : Peel) where
   pub peeling-none : (found : Decomposition) (rest : Poly) → first ≡ start (piecesOf found) (termsOf rest) → Kept found → Padded rest → Peeling 0 found rest
   peeling-none found rest e k p = record { whole = rw e; kept = k; padded = p }
 
-  module _ (i : ℕ) (found : Decomposition) (rest : Poly) (d : Ratio) (h : i < length all) (p : Peeling i found rest) (l : Left) (e : l ≡ leftOf (peelOne times (getD all i d) (start (piecesOf found) (termsOf rest)))) where
-    pub peeling-more : l .found .outcome ≡ O.Done → Peeling (i + 1) (l .found) (l .rest)
+  module _ (i : ℕ) (found : Decomposition) (rest : Poly) (d : Ratio) (h : i < length all) (p : Peeling i found rest) (x : Pair) (e : PeelsOff (getD all i d) (termsOf rest) x) where
+    step : thenGot (peelFrom x times (start (piecesOf found) (termsOf rest))) (peeled times (drop (i + 1) all)) ≡ peeled times all first
     unfolding peeled
-    peeling-more o =
-        let q = peeled-done l (peelOne times (getD all i d) (start (piecesOf found) (termsOf rest))) e o in
-        record { whole = rw (add-one i) (rw (drop-cons all i d h, q .is) at (p .whole)); kept = q .kept; padded = q .padded }
+    step = rw (e .is times (piecesOf found), add-one i) (rw (drop-cons all i d h) at (p .whole))
 
-    pub peeling-over : (why : Reason) → l .found .outcome ≡ O.Refused why → stoppedFor why ≡ leftOf (peeled times all first)
-    unfolding peeled
-    peeling-over why o = ap leftOf (rw (drop-cons all i d h, peeled-none l (peelOne times (getD all i d) (start (piecesOf found) (termsOf rest))) why e o) at (p .whole))
+    pub peeling-over : (why : Reason) → x .outcome ≡ O.Refused why → stoppedFor why ≡ leftOf (peeled times all first)
+    peeling-over why o = ap leftOf (rw o at step)
+
+    module _ (o : x .outcome ≡ O.Done) where
+      pub peeling-same : x .two ≡ false → Peeling (i + 1) found rest
+      peeling-same t = record { whole = rw (o, t) at step; kept = p .kept; padded = p .padded }
+
+      module _ (t : x .two ≡ true) where
+        off : peeled times (drop (i + 1) all) (start (added (termsOf (x .factor)) times (piecesOf found)) (termsOf (x .quotient))) ≡ peeled times all first
+        off = rw (o, t) at step
+
+        pub peeling-full : 32 ≤ found .len → Peeling (i + 1) found (x .quotient)
+        peeling-full l = record { whole = rw (added-full found (termsOf (x .factor)) times (p .kept) l) at off; kept = p .kept; padded = e .padded .quotient }
+
+        laid : (l : List Piece) (d : Decomposition) → d ≡ foundAll l → peeled times (drop (i + 1) all) (start l (termsOf (x .quotient))) ≡ peeled times all first → Peeling (i + 1) d (x .quotient)
+        laid l d q w = subst (λ (d : Decomposition). Peeling (i + 1) d (x .quotient)) (sym q) (record { whole = rw (found-pieces l) w; kept = kept l; padded = e .padded .quotient })
+
+        pub peeling-more : found .len < 32 → Peeling (i + 1) (record { outcome = found .outcome; pieces = set (found .pieces) (found .len) (record { poly = x .factor; times = times }); len = found .len + 1 }) (x .quotient)
+        peeling-more l = laid (added (termsOf (x .factor)) times (piecesOf found)) _ (add-done found (x .factor) times (p .kept) (e .padded .factor) l) off
 
   pub peeling-all : (i : ℕ) (found : Decomposition) (rest : Poly) → length all ≤ i → Peeling i found rest → _≡_ {A = Left} (record { found = found; rest = rest }) (leftOf (peeled times all first))
   unfolding peeled

@@ -34,6 +34,10 @@ pub add-full : (d : Decomposition) (p : List Ratio) (times : ℕ) → Kept d →
 unfolding added
 add-full d p times k h = rw (le-ltb (length (piecesOf d)) 32 (omega (arith, kept-len d k))) (k .is)
 
+pub added-full : (d : Decomposition) (p : List Ratio) (times : ℕ) → Kept d → 32 ≤ d .len → added p times (piecesOf d) ≡ piecesOf d
+unfolding added
+added-full d p times k h = rw (le-ltb (length (piecesOf d)) 32 (omega (arith, kept-len d k)))
+
 pub add-done : (d : Decomposition) (p : Poly) (times : ℕ) → Kept d → Padded p → d .len < 32
     → _≡_ {A = Decomposition} (record { outcome = d .outcome; pieces = set (d .pieces) (d .len) (record { poly = p; times = times }); len = d .len + 1 }) (foundAll (added (termsOf p) times (piecesOf d)))
 unfolding added

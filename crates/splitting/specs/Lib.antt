@@ -1,3 +1,3 @@
-pub mod Peel
 pub mod Pair
+pub mod Peel
 pub mod Split

@@ -1,11 +1,14 @@
 -- Document 01, module 5, factors: each rational root r is divided out as x less r where that leaves no rest.
-use mathlib.Core.Bool.{Bool, true, false}
+use mathlib.Core.Path.{_≡_}
+use mathlib.Core.Bool.{Bool, true, false, cond}
 use mathlib.Core.List.{List, [], _∷_, _++_}
 use Prim.Native.Nat.{ℕ}
 use lib.Dec.{ltb}
 use lib.IntN.{pos}
 use lib.ListN.{length, take}
 use Rattle.ratio.specs.Step.{negOf}
+use Rattle.ratio.specs.declared.Outcome.{Outcome}
+use Rattle.ratio.specs.declared.Outcome.the-variants as O
 use Rattle.ratio.specs.declared.Ratio.{Ratio}
 use Rattle.ratio.specs.declared.Reason.{Reason}
 use Rattle.ratio.specs.declared.Reason.the-variants.{CoeffOverflow}
@@ -13,7 +16,7 @@ use Rattle.ratio.specs.declared.Step.{Step}
 use Rattle.ratio.specs.declared.Step.the-variants.{Done, Refused}
 use Rattle.terms.specs.declared.Answer.{Answer}
 use Rattle.terms.specs.Machine.{wholeR}
-use Rattle.terms.specs.Poly.{polyOf}
+use Rattle.terms.specs.Poly.{termsOf, polyOf}
 use Rattle.terms.specs.Answer.{doneWith, refusedWith}
 use Rattle.search.specs.declared.Roots.{Roots}
 use Rattle.yun.specs.declared.Piece.{Piece}
@@ -21,6 +24,8 @@ use Rattle.yun.specs.Answer.{foundAll, refusedFor}
 use Rattle.yun.specs.Got.{Got, got, none, thenGot, partsOf}
 use Rattle.yun.specs.Round.{piece}
 use Rattle.splitting.specs.declared.Left.{Left}
+use Rattle.splitting.specs.declared.Pair.{Pair}
+use Rattle.splitting.specs.Pair.{PaddedPair}
 
 abbrev pub ifRoom : Bool → List Piece → List Piece → List Piece
 ifRoom true more found = more
@@ -75,3 +80,16 @@ leftOf (none why) = record { found = refusedFor why; rest = polyOf [] }
 
 abbrev pub stoppedFor : Reason → Left
 stoppedFor why = leftOf (none why)
+
+abbrev pub unlessStopped : Outcome → Peel → Got Peel
+unlessStopped O.Done l = got l
+unlessStopped (O.Refused why) l = none why
+
+-- what is found and left where one root comes to p
+abbrev pub peelFrom : Pair → ℕ → Peel → Got Peel
+peelFrom p times l = unlessStopped (p .outcome) (cond (p .two) (start (added (termsOf (p .factor)) times (l .found)) (termsOf (p .quotient))) l)
+
+-- whatever was found before
+pub record PeelsOff (r : Ratio) (f : List Ratio) (p : Pair) : Type 0 where
+  pub is : (times : ℕ) (found : List Piece) → peelFrom p times (start found f) ≡ peelOne times r (start found f)
+  pub padded : PaddedPair p

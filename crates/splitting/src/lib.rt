@@ -16,7 +16,7 @@ ghost use mathlib.Core.List.{[]};
 ghost use lib.ListN.{length};
 ghost use Rattle.terms.specs.Poly.{termsOf};
 ghost use Rattle.yun.specs.Answer.{foundAll, piecesOf, decompositionOf};
-ghost use Rattle.splitting.specs.Peel.{added, lineAnswer, rootsIn, start, peelOne, peeled, leftOf, stoppedFor};
+ghost use Rattle.splitting.specs.Peel.{added, lineAnswer, rootsIn, start, peeled, leftOf, stoppedFor, PeelsOff};
 ghost use Rattle.splitting.specs.Pair.{Padded, PaddedPair, pairOf, pairedBy, pairFrom};
 ghost use Rattle.splitting.specs.Split.{Kept, Splits, splitAll};
 
@@ -49,6 +49,17 @@ fn add(found: Decomposition, p: Poly, times: u64) -> Decomposition
     out
 }
 
+fn no_pair(outcome: Outcome) -> Pair
+    ensures { λ p. ⌜ PaddedPair p × (p .outcome ≡ outcome) × (p .two ≡ false) ⌝ }
+{
+    Pair {
+        outcome,
+        two: false,
+        factor: Poly::zero(),
+        quotient: Poly::zero(),
+    }
+}
+
 // ---- rational roots
 
 // x less r.
@@ -74,30 +85,32 @@ fn stopped(why: Reason) -> Left
     }
 }
 
-// x less r is divided out where that leaves no rest.
-fn peel_one(found: Decomposition, f: Poly, r: Ratio, times: u64) -> Left
-    requires { ⌜ Kept found × Padded f ⌝ }
-    ensures { λ l. ⌜ l ≡ leftOf (peelOne times r (start (piecesOf found) (termsOf f))) ⌝ }
+// What dividing out x less r comes to: that line and the quotient, where no rest is left.
+// The list of factors stays in the loop, so that no root copies it.
+fn peel_one(f: Poly, r: Ratio) -> Pair
+    ensures { λ p. ⌜ PeelsOff r (termsOf f) p ⌝ }
 {
     let a = line(r);
     let oa = a.outcome;
     if let Outcome::Refused(why) = oa {
-        return stopped(why);
+        return no_pair(Outcome::Refused(why));
     }
     let x = a.poly;
     let d = remainders::divide(f, x);
     let od = d.outcome;
     if let Outcome::Refused(why) = od {
-        return stopped(why);
+        return no_pair(Outcome::Refused(why));
     }
     let rest = d.rest;
     if rest.length() > 0 {
-        return Left { found, rest: f };
+        return no_pair(Outcome::Done);
     }
     let q = d.quotient;
-    Left {
-        found: add(found, x, times),
-        rest: q,
+    Pair {
+        outcome: Outcome::Done,
+        two: true,
+        factor: x,
+        quotient: q,
     }
 }
 
@@ -119,30 +132,28 @@ fn peel(found: Decomposition, f: Poly, roots: Roots, times: u64) -> Left
     let mut i: usize = 0;
     while i < n {
         let r = roots.values[i];
-        let l = peel_one(now, rest, r, times);
-        now = l.found;
-        rest = l.rest;
-        let o = now.outcome;
+        let p = peel_one(rest, r);
+        let o = p.outcome;
         if let Outcome::Refused(why) = o {
             return stopped(why);
         }
         i += 1;
+        if !p.two {
+            continue;
+        }
+        rest = p.quotient;
+        let k = now.len;
+        if k >= 32 {
+            continue;
+        }
+        let x = p.factor;
+        now.pieces[k] = Piece { poly: x, times };
+        now.len = k + 1;
     }
     Left { found: now, rest }
 }
 
 // ---- Kronecker's method
-
-fn no_pair(outcome: Outcome) -> Pair
-    ensures { λ p. ⌜ PaddedPair p × (p .outcome ≡ outcome) × (p .two ≡ false) ⌝ }
-{
-    Pair {
-        outcome,
-        two: false,
-        factor: Poly::zero(),
-        quotient: Poly::zero(),
-    }
-}
 
 // The factor g and what it leaves of f, where that is of degree 1 or more.
 fn divide_by(f: Poly, g: Poly) -> Pair
@@ -219,7 +230,11 @@ fn split(found: Decomposition, f: Poly, times: u64, budget: u64) -> Decompositio
         if let Outcome::Refused(_) = lo {
             return lf;
         }
-        if rest.length() < n {
+        let m = rest.length();
+        if m < 2 {
+            return lf;
+        }
+        if m < n {
             return split(lf, rest, times, budget);
         }
         return add(lf, rest, times);
@@ -242,7 +257,7 @@ fn split(found: Decomposition, f: Poly, times: u64, budget: u64) -> Decompositio
     split(a, q, times, budget)
 }
 
-// Every factor of a decomposition is split; the multiplicities are kept.
+// Every factor of a decomposition is split; the multiplicities are kept. A linear one is laid in place, so that the list isn't copied for it.
 pub fn split_all(d: Decomposition, budget: u64) -> Decomposition
     ensures is { λ r. ⌜ r ≡ decompositionOf (splitAll (piecesOf d) budget []) ⌝ }
 {
@@ -252,13 +267,26 @@ pub fn split_all(d: Decomposition, budget: u64) -> Decomposition
     while i < n {
         let piece = d.pieces[i];
         let p = piece.poly;
-        let next = split(found, p.normalise(), piece.times, budget);
-        let o = next.outcome;
-        if let Outcome::Refused(_) = o {
-            return next;
-        }
-        found = next;
+        let q = p.normalise();
         i += 1;
+        if q.length() != 2 {
+            let next = split(found, q, piece.times, budget);
+            let o = next.outcome;
+            if let Outcome::Refused(_) = o {
+                return next;
+            }
+            found = next;
+            continue;
+        }
+        let k = found.len;
+        if k >= 32 {
+            continue;
+        }
+        found.pieces[k] = Piece {
+            poly: q,
+            times: piece.times,
+        };
+        found.len = k + 1;
     }
     found
 }

@@ -12,7 +12,7 @@ use Rattle.yun.specs.declared.Piece.{Piece}
 use Rattle.yun.specs.declared.Decomposition.{Decomposition}
 use Rattle.yun.specs.Got.{Got, got, none}
 use Rattle.yun.specs.Round.{piece, pushed}
-use Rattle.yun.specs.Answer.{noPiece, piecesOf, foundAll, decompositionOf, Held}
+use Rattle.yun.specs.Answer.{noPiece, piecesOf, foundAll, decompositionOf, Held, pieceFor, roomFor}
 
 pub found-pieces : (l : List Piece) → piecesOf (foundAll l) ≡ l
 found-pieces l = take-append-seam l (replicate (32 - length l) noPiece)
@@ -59,6 +59,43 @@ push-done found p i h e s =
 
 pub push-none : (found : Decomposition) (p : List Ratio) (i : ℕ) → Held found → length p ≡ 0 → found ≡ foundAll (pushed p i (piecesOf found))
 push-none found p i h e = h .is ∙ ap foundAll (sym (pushed-none p i (piecesOf found) e))
+
+-- the same in place: a factor that isn't there takes no place
+none-more : (l : List Piece) → length l < 32 → _≡_ {A = Decomposition} (record { outcome = foundAll l .outcome; pieces = set (foundAll l .pieces) (foundAll l .len) noPiece; len = foundAll l .len + 0 }) (foundAll l)
+none-more l h =
+    let e : 32 - length l ≡ suc (31 - length l) = omega arith in
+    let n : length l + 0 ≡ length l = omega arith in
+    rw (e, n, filled l noPiece (suc (31 - length l)) (31 - length l) refl, append-assoc)
+
+stored-at : (l : List Piece) (p : List Ratio) (i : ℕ) → length l < 32 → _≡_ {A = Decomposition} (record { outcome = foundAll l .outcome; pieces = set (foundAll l .pieces) (foundAll l .len) (pieceFor p i); len = foundAll l .len + roomFor p }) (foundAll (pushed p i l))
+unfolding pushed
+stored-at l [] i h = none-more l h
+stored-at l (x ∷ p) i h = one-more l (piece (x ∷ p) i) h
+
+pub stored : (found : Decomposition) (p : List Ratio) (i : ℕ) → Held found → _≡_ {A = Decomposition} (record { outcome = found .outcome; pieces = set (found .pieces) (found .len) (pieceFor p i); len = found .len + roomFor p }) (foundAll (pushed p i (piecesOf found)))
+stored found p i h =
+    ap {B = Decomposition} (λ (d : Decomposition). record { outcome = d .outcome; pieces = set (d .pieces) (d .len) (pieceFor p i); len = d .len + roomFor p }) (h .is)
+    ∙ stored-at (piecesOf found) p i (h .room)
+
+pub piece-none : (p : List Ratio) (i : ℕ) → length p ≡ 0 → noPiece ≡ pieceFor p i
+piece-none [] i h = refl
+piece-none (x ∷ p) i h = absurd (omega arith)
+
+pub piece-some : (p : List Ratio) (i : ℕ) → 0 < length p → piece p i ≡ pieceFor p i
+piece-some [] i h = absurd (omega arith)
+piece-some (x ∷ p) i h = refl
+
+pub room-none : (p : List Ratio) → length p ≡ 0 → 0 ≡ roomFor p
+room-none [] h = refl
+room-none (x ∷ p) h = absurd (omega arith)
+
+pub room-some : (p : List Ratio) → 0 < length p → 1 ≡ roomFor p
+room-some [] h = absurd (omega arith)
+room-some (x ∷ p) h = refl
+
+pub room-few : (p : List Ratio) → roomFor p ≤ 1
+room-few [] = omega arith
+room-few (x ∷ p) = omega arith
 
 -- the array never cuts
 pub pieces-within : (s : Got (List Piece)) (r : Decomposition) → r ≡ decompositionOf s → length (r .pieces) ≡ 32 → r .len ≤ 32

@@ -20,7 +20,7 @@ use Rattle.yun.specs.declared.Piece.{Piece}
 use Rattle.yun.specs.declared.Decomposition.{Decomposition}
 use Rattle.yun.specs.Got.{Got, got, none, thenGot, listFrom, partsOf}
 use Rattle.yun.specs.Round.{pushed}
-use Rattle.yun.specs.Yun.{rounds, unlessRest, splitBy, sharing, splitOf, orWhole, squareFrees}
+use Rattle.yun.specs.Yun.{rounds, unlessRest, splitBy, sharing, splitOf, foundOr, squareFrees}
 use Rattle.yun.specs.Answer.{foundAll, decompositionOf}
 use Rattle.yun.proofs.CodeGot.{list-got, list-none, parts-got, parts-none}
 
@@ -108,40 +108,16 @@ zero-none [] h = refl
 zero-none (x ∷ f) h = absurd (omega arith)
 
 module _ (f : List Ratio) (some : 0 < length f) (m : Answer) (e : m ≡ answerOf (monic plain f 0)) where
-  all-is : thenGot (listFrom (monic plain f 0)) (λ m. thenGot (splitOf m) (λ found. got (orWhole m found))) ≡ squareFrees f
+  all-is : thenGot (listFrom (monic plain f 0)) (λ m. foundOr m (splitOf m)) ≡ squareFrees f
   unfolding squareFrees
   all-is = go f some
     where
-      go : (f : List Ratio) → 0 < length f → thenGot (listFrom (monic plain f 0)) (λ m. thenGot (splitOf m) (λ found. got (orWhole m found))) ≡ squareFrees f
+      go : (f : List Ratio) → 0 < length f → thenGot (listFrom (monic plain f 0)) (λ m. foundOr m (splitOf m)) ≡ squareFrees f
       go [] h = absurd (omega arith)
       go (x ∷ f) h = refl
 
   pub monic-refused : (why : Reason) → m .outcome ≡ O.Refused why → none why ≡ squareFrees f
   monic-refused why o = rw (list-none m (monic plain f 0) why e o) at all-is
 
-  module _ (o : m .outcome ≡ O.Done) (d : Decomposition) (ed : d ≡ decompositionOf (splitOf (termsOf (m .poly)))) where
-    from : thenGot (splitOf (termsOf (m .poly))) (λ found. got (orWhole (termsOf (m .poly)) found)) ≡ squareFrees f
-    from = rw (list-got m (monic plain f 0) e o) at all-is
-
-    refused-by : (s : Got (List Piece)) → d ≡ decompositionOf s → (why : Reason) → d .outcome ≡ O.Refused why → d ≡ decompositionOf (thenGot s (λ found. got (orWhole (termsOf (m .poly)) found)))
-    refused-by (got l) p why q = done-refused (d .outcome) why (ap (λ (x : Decomposition). x .outcome) p) q
-    refused-by (none w) p why q = p
-
-    pub split-refused : (why : Reason) → d .outcome ≡ O.Refused why → d ≡ decompositionOf (squareFrees f)
-    split-refused why q = refused-by (splitOf (termsOf (m .poly))) ed why q ∙ ap decompositionOf from
-
-    kept-by : (s : Got (List Piece)) → d ≡ decompositionOf s → 0 < d .len → d ≡ decompositionOf (thenGot s (λ found. got (orWhole (termsOf (m .poly)) found)))
-    kept-by (got []) p h = absurd (omega (arith, ap (λ (x : Decomposition). x .len) p))
-    kept-by (got (x ∷ l)) p h = p
-    kept-by (none w) p h = absurd (omega (arith, ap (λ (x : Decomposition). x .len) p))
-
-    pub split-kept : 0 < d .len → d ≡ decompositionOf (squareFrees f)
-    split-kept h = kept-by (splitOf (termsOf (m .poly))) ed h ∙ ap decompositionOf from
-
-    whole-by : (s : Got (List Piece)) → d ≡ decompositionOf s → d .outcome ≡ O.Done → d .len ≤ 0 → foundAll (pushed (termsOf (m .poly)) 1 []) ≡ decompositionOf (thenGot s (λ found. got (orWhole (termsOf (m .poly)) found)))
-    whole-by (got []) p q h = refl
-    whole-by (got (x ∷ l)) p q h = absurd (omega (arith, ap (λ (x : Decomposition). x .len) p))
-    whole-by (none w) p q h = done-refused (d .outcome) w q (ap (λ (x : Decomposition). x .outcome) p)
-
-    pub split-whole : d .outcome ≡ O.Done → d .len ≤ 0 → foundAll (pushed (termsOf (m .poly)) 1 []) ≡ decompositionOf (squareFrees f)
-    split-whole q h = whole-by (splitOf (termsOf (m .poly))) ed q h ∙ ap decompositionOf from
+  pub monic-done : m .outcome ≡ O.Done → foundOr (termsOf (m .poly)) (splitOf (termsOf (m .poly))) ≡ squareFrees f
+  monic-done o = rw (list-got m (monic plain f 0) e o) at all-is

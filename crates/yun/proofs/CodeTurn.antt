@@ -1,6 +1,6 @@
 -- One round of the loop: each way it ends.
-use mathlib.Core.Path.{_≡_, refl, sym, ap, ap₂, _∙_}
-use mathlib.Core.Bool.{true}
+use mathlib.Core.Path.{_≡_, refl, sym, ap, subst, _∙_}
+use mathlib.Core.Bool.{true, false}
 use mathlib.Core.List.{List, [], _∷_}
 use Prim.Native.Nat.{ℕ, suc, _<_, _≤_}
 use native.Mathlib.Omega.{arith}
@@ -18,13 +18,11 @@ use Rattle.remainders.specs.declared.Division.{Division}
 use Rattle.remainders.specs.Gcd.{monic, gcdOf}
 use Rattle.remainders.specs.Answer.{dividedOf}
 use Rattle.yun.specs.declared.Piece.{Piece}
-use Rattle.yun.specs.declared.Decomposition.{Decomposition}
 use Rattle.yun.specs.declared.Round.{Round}
 use Rattle.yun.specs.Got.{Got, got, none, listFrom, partsOf}
 use Rattle.yun.specs.Round.{pushed, Turn, over, on, orOver, ended, factorOf, onIf, cutBy, met, turnOf}
-use Rattle.yun.specs.Answer.{foundAll, roundOf}
+use Rattle.yun.specs.Answer.{overWith, Turns}
 use Rattle.yun.proofs.CodeGot.{list-got, list-none, parts-got, parts-none}
-use Rattle.yun.proofs.CodeFound.{pushed-length}
 
 -- ---- a scaled, where its degree is at least 1
 
@@ -99,15 +97,22 @@ module _ (i : ℕ) (b d : List Ratio) (found : List Piece) (a : List Ratio) (m :
         pub cut-done : length (termsOf (q .rest)) ≤ 0 → length (termsOf (r .rest)) ≤ 0 → goes ≡ cutBy i b d found a
         cut-done h j = on-both (termsOf (q .rest)) (termsOf (r .rest)) goes h j ∙ cut-is
 
--- what the code hands back where the loop goes on
-pub on-round : (found : Decomposition) (b c : Poly) (l : List Piece) → found ≡ foundAll l → b ≡ polyOf (termsOf b) → c ≡ polyOf (termsOf c)
-    → _≡_ {A = Round} (record { more = true; found = found; b = b; c = c }) (roundOf (on l (termsOf b) (termsOf c)))
-on-round found b c l e p q = ap {B = Round} (λ (d : Decomposition). record { more = true; found = d; b = b; c = c }) e ∙ ap₂ {C = Round} (λ (x y : Poly). record { more = true; found = foundAll l; b = x; c = y }) p q
+-- ---- what the code hands back
+
+module _ (t : ℕ → List Piece → Turn) (r : Round) where
+  pub stops : (why : Reason) → r ≡ overWith (O.Refused why) false (polyOf []) → ((i : ℕ) (found : List Piece) → over (none why) ≡ t i found) → Turns t r
+  stops why e h = subst (Turns t) (sym e) (record { is = h; padded = refl })
+
+  pub stays : r ≡ overWith O.Done true (polyOf []) → ((i : ℕ) (found : List Piece) → over (got []) ≡ t i found) → Turns t r
+  stays e h = subst (Turns t) (sym e) (record { is = h; padded = refl })
+
+  pub lasts : (p : Poly) → r ≡ overWith O.Done false p → p ≡ polyOf (termsOf p) → ((i : ℕ) (found : List Piece) → over (got (pushed (termsOf p) i found)) ≡ t i found) → Turns t r
+  lasts p e q h = subst (Turns t) (sym e) (record { is = h; padded = q })
 
 -- ---- the round
 
-pub turn-constant : (i : ℕ) (b c : List Ratio) (found : List Piece) → length b < 2 → over (got found) ≡ turnOf i b c found
-unfolding turnOf
+pub turn-constant : (i : ℕ) (b c : List Ratio) (found : List Piece) → length b < 2 → over (got (pushed [] i found)) ≡ turnOf i b c found
+unfolding turnOf pushed
 turn-constant i [] c found h = refl
 turn-constant i (x ∷ []) c found h = refl
 turn-constant i (x ∷ y ∷ b) c found h = absurd (omega arith)
@@ -152,38 +157,3 @@ module _ (i : ℕ) (b c : List Ratio) (found : List Piece) (h : 2 ≤ length b) 
 
         pub gcd-done : g .outcome ≡ O.Done → cutBy i b (termsOf (d .poly)) found (termsOf (g .poly)) ≡ turnOf i b c found
         gcd-done og = sym (met-some i b found (termsOf (d .poly)) some ∙ ap (λ z. orOver z (cutBy i b (termsOf (d .poly)) found)) (list-got g (gcdOf plain b (termsOf (d .poly)) 0) eg og)) ∙ turn-met
-
--- ---- a round finds one factor at most
-
-abbrev pub Few : ℕ → Turn → Type 0
-Few n (over r) = Unit {0}
-Few n (on found b c) = length found ≤ n
-
-or-few : {X : Type 0} (n : ℕ) (g : Got X) (k : X → Turn) → ((x : X) → Few n (k x)) → Few n (orOver g k)
-or-few n (got x) k h = h x
-or-few n (none why) k h = tt
-
-on-few : (n : ℕ) (q r : List Ratio) (t : Turn) → Few n t → Few n (onIf q r t)
-on-few n [] [] t h = h
-on-few n [] (x ∷ r) t h = tt
-on-few n (x ∷ q) r t h = tt
-
-module _ (i : ℕ) (b : List Ratio) (found : List Piece) where
-  ended-few : Few (suc (length found)) (ended i b found)
-  unfolding ended
-  ended-few = or-few _ (listFrom (monic plain b 0)) _ (λ p. tt)
-
-  cut-few : (d a : List Ratio) → Few (suc (length found)) (cutBy i b d found a)
-  unfolding cutBy
-  cut-few d a = or-few _ (listFrom (factorOf a)) _ (λ p. or-few _ (partsOf b a) _ (λ q. or-few _ (partsOf d a) _ (λ r. on-few _ (q .rest) (r .rest) _ (pushed-length p i found))))
-
-  met-few : (d : List Ratio) → Few (suc (length found)) (met i b found d)
-  unfolding met
-  met-few [] = ended-few
-  met-few (x ∷ d) = or-few _ (listFrom (gcdOf plain b (x ∷ d) 0)) _ (λ a. cut-few (x ∷ d) a)
-
-pub turn-few : (i : ℕ) (b c : List Ratio) (found : List Piece) → Few (suc (length found)) (turnOf i b c found)
-unfolding turnOf
-turn-few i [] c found = tt
-turn-few i (x ∷ []) c found = tt
-turn-few i (x ∷ y ∷ b) c found = or-few _ (listFrom (derived plain (x ∷ y ∷ b) 0)) _ (λ db. or-few _ (listFrom (zipped plain minus c db 0)) _ (λ d. met-few i (x ∷ y ∷ b) found d))

@@ -41,6 +41,10 @@ abbrev pub orWhole : List Ratio → List Piece → List Piece
 orWhole f [] = pushed f 1 []
 orWhole f (p ∷ found) = p ∷ found
 
+-- what was found, or all of f
+abbrev pub foundOr : List Ratio → Got (List Piece) → Got (List Piece)
+foundOr f g = thenGot g (λ found. got (orWhole f found))
+
 -- scaled first; zero has no factors
 unfoldable pub squareFrees : List Ratio → Got (List Piece)
 squareFrees [] = got []

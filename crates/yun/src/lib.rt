@@ -5,12 +5,14 @@ use ratio::Reason;
 use terms::Answer;
 use terms::Poly;
 ghost use mathlib.Core.Path.{_≡_};
+ghost use mathlib.Core.Bool.{true, false};
 ghost use mathlib.Core.List.{[]};
-ghost use Prim.Native.Nat.{_≤_};
+ghost use lib.ListN.{length};
+ghost use Rattle.ratio.specs.declared.Outcome.the-variants as O;
 ghost use Rattle.terms.specs.Poly.{termsOf, polyOf};
-ghost use Rattle.yun.specs.Answer.{noPiece, refusedFor, foundAll, decompositionOf, piecesOf, Held, overWith, roundOf};
+ghost use Rattle.yun.specs.Answer.{noPiece, refusedFor, foundAll, decompositionOf, piecesOf, Held, overWith, Turns, pieceFor, roomFor};
 ghost use Rattle.yun.specs.Round.{pushed, factorOf, ended, cutBy, turnOf};
-ghost use Rattle.yun.specs.Yun.{rounds as roundsOf, splitBy, splitOf, squareFrees};
+ghost use Rattle.yun.specs.Yun.{rounds as roundsOf, splitBy, splitOf, foundOr, squareFrees};
 ghost use Rattle.terms.specs.Answer.{answerOf};
 
 // A factor and how often it occurs.
@@ -26,10 +28,13 @@ pub struct Decomposition {
     pub len: usize,
 }
 
-// Where a round of the loop leaves off: what is found, and b and c for the next round if there is more to do.
+// What a round of the loop comes to: a refusal, or that the polynomial stays whole, or the factor found (zero where none is),
+// with b and c for the next round if there is more to do. The list of factors stays in the loop, so that no round copies it.
 struct Round {
+    outcome: Outcome,
+    whole: bool,
     more: bool,
-    found: Decomposition,
+    factor: Poly,
     b: Poly,
     c: Poly,
 }
@@ -78,29 +83,51 @@ fn push(found: Decomposition, p: Poly, i: u64) -> Decomposition
     out
 }
 
-fn over(found: Decomposition) -> Round
-    ensures { λ r. ⌜ r ≡ overWith found ⌝ }
+// f stays whole.
+fn whole(f: Poly) -> Decomposition
+    requires { ⌜ f ≡ polyOf (termsOf f) ⌝ }
+    ensures { λ r. ⌜ r ≡ foundAll (pushed (termsOf f) 1 []) ⌝ }
+{
+    push(nothing(), f, 1)
+}
+
+// The loop ends.
+fn over(outcome: Outcome, whole: bool, factor: Poly) -> Round
+    ensures { λ r. ⌜ r ≡ overWith outcome whole factor ⌝ }
 {
     Round {
+        outcome,
+        whole,
         more: false,
-        found,
+        factor,
         b: Poly::zero(),
         c: Poly::zero(),
     }
 }
 
+fn stop(why: Reason) -> Round
+    ensures { λ r. ⌜ r ≡ overWith (O.Refused why) false (polyOf []) ⌝ }
+{
+    over(Outcome::Refused(why), false, Poly::zero())
+}
+
+fn stay_whole() -> Round
+    ensures { λ r. ⌜ r ≡ overWith O.Done true (polyOf []) ⌝ }
+{
+    over(Outcome::Done, true, Poly::zero())
+}
+
 // No difference is left: b, scaled, is the last factor.
-fn end(found: Decomposition, i: u64, b: Poly) -> Round
-    requires { ⌜ Held found ⌝ }
-    ensures { λ r. ⌜ r ≡ roundOf (ended i (termsOf b) (piecesOf found)) ⌝ }
+fn end(b: Poly) -> Round
+    ensures { λ r. ⌜ Turns (λ i. ended i (termsOf b)) r ⌝ }
 {
     let m = remainders::monic(b);
     let o = m.outcome;
     if let Outcome::Refused(why) = o {
-        return over(refused(why));
+        return stop(why);
     }
     let p = m.poly;
-    over(push(found, p, i))
+    over(Outcome::Done, false, p)
 }
 
 // a, scaled, where its degree is at least 1; else nothing.
@@ -114,102 +141,135 @@ fn factor_of(a: Poly) -> Answer
 }
 
 // a is found, and b and d are divided by it; a rest leaves the polynomial whole.
-fn cut(found: Decomposition, i: u64, b: Poly, d: Poly, a: Poly) -> Round
-    requires { ⌜ Held found ⌝ }
-    ensures { λ r. ⌜ r ≡ roundOf (cutBy i (termsOf b) (termsOf d) (piecesOf found) (termsOf a)) ⌝ }
+fn cut(b: Poly, d: Poly, a: Poly) -> Round
+    ensures { λ r. ⌜ Turns (λ i found. cutBy i (termsOf b) (termsOf d) found (termsOf a)) r ⌝ }
 {
     let m = factor_of(a);
     let om = m.outcome;
     if let Outcome::Refused(why) = om {
-        return over(refused(why));
+        return stop(why);
     }
     let q = remainders::divide(b, a);
     let oq = q.outcome;
     if let Outcome::Refused(why) = oq {
-        return over(refused(why));
+        return stop(why);
     }
     let r = remainders::divide(d, a);
     let or = r.outcome;
     if let Outcome::Refused(why) = or {
-        return over(refused(why));
+        return stop(why);
     }
     let rest_b = q.rest;
     let rest_c = r.rest;
     if rest_b.length() > 0 {
-        return over(nothing());
+        return stay_whole();
     }
     if rest_c.length() > 0 {
-        return over(nothing());
+        return stay_whole();
     }
-    let p = m.poly;
+    let factor = m.poly;
     let next_b = q.quotient;
     let next_c = r.quotient;
     Round {
+        outcome: Outcome::Done,
+        whole: false,
         more: true,
-        found: push(found, p, i),
+        factor,
         b: next_b,
         c: next_c,
     }
 }
 
-// Round i of the loop.
-fn turn(found: Decomposition, i: u64, b: Poly, c: Poly) -> Round
-    requires { ⌜ Held found ⌝ }
-    ensures { λ r. ⌜ r ≡ roundOf (turnOf i (termsOf b) (termsOf c) (piecesOf found)) ⌝ }
+// A round of the loop.
+fn turn(b: Poly, c: Poly) -> Round
+    ensures { λ r. ⌜ Turns (λ i. turnOf i (termsOf b) (termsOf c)) r ⌝ }
 {
     if b.length() < 2 {
-        return over(found);
+        return over(Outcome::Done, false, Poly::zero());
     }
     let db = b.differentiate();
     let ob = db.outcome;
     if let Outcome::Refused(why) = ob {
-        return over(refused(why));
+        return stop(why);
     }
     let slope = db.poly;
     let diff = c.zip(slope, true);
     let od = diff.outcome;
     if let Outcome::Refused(why) = od {
-        return over(refused(why));
+        return stop(why);
     }
     let d = diff.poly;
     if d.length() == 0 {
-        return end(found, i, b);
+        return end(b);
     }
     let g = remainders::greatest(b, d);
     let og = g.outcome;
     if let Outcome::Refused(why) = og {
-        return over(refused(why));
+        return stop(why);
     }
     let a = g.poly;
-    cut(found, i, b, d, a)
+    cut(b, d, a)
 }
 
-// The rounds from b and c on, at most n of them: the factor found in round i occurs i times.
-fn rounds(n: usize, b: Poly, c: Poly) -> Decomposition
-    requires { ⌜ n ≤ 32 ⌝ }
-    ensures { λ r. ⌜ r ≡ decompositionOf (roundsOf n 1 (termsOf b) (termsOf c) []) ⌝ }
+// p found i times; of an empty p what an unused place holds.
+fn piece_of(p: Poly, i: u64) -> Piece
+    requires { ⌜ p ≡ polyOf (termsOf p) ⌝ }
+    ensures { λ r. ⌜ r ≡ pieceFor (termsOf p) i ⌝ }
 {
+    if p.length() == 0 {
+        no_piece()
+    } else {
+        Piece { poly: p, times: i }
+    }
+}
+
+// How many places p takes in the list.
+fn room(p: Poly) -> usize
+    ensures { λ r. ⌜ r ≡ roomFor (termsOf p) ⌝ }
+{
+    if p.length() == 0 { 0 } else { 1 }
+}
+
+// The rounds from b and c on, at most as many as f has coefficients: the factor found in round i occurs i times. Where none is, f stays whole.
+fn rounds(f: Poly, b: Poly, c: Poly) -> Decomposition
+    requires { ⌜ f ≡ polyOf (termsOf f) ⌝ }
+    ensures { λ r. ⌜ r ≡ decompositionOf (foundOr (termsOf f) (roundsOf (length (termsOf f)) 1 (termsOf b) (termsOf c) [])) ⌝ }
+{
+    let n = f.length();
     let mut u = b;
     let mut v = c;
     let mut found = nothing();
     let mut i: usize = 0;
     while i < n {
-        let t = turn(found, (i as u64) + 1, u, v);
-        let f = t.found;
-        if !t.more {
-            return f;
+        let t = turn(u, v);
+        let o = t.outcome;
+        if let Outcome::Refused(why) = o {
+            return refused(why);
         }
-        found = f;
+        if t.whole {
+            return whole(f);
+        }
+        let p = t.factor;
+        let k = found.len;
+        found.pieces[k] = piece_of(p, (i as u64) + 1);
+        found.len = k + room(p);
+        if !t.more {
+            if found.len == 0 {
+                return whole(f);
+            }
+            return found;
+        }
         u = t.b;
         v = t.c;
         i += 1;
     }
-    nothing()
+    whole(f)
 }
 
 // f and its derivative over their gcd a, then the rounds.
 fn split_by(f: Poly, df: Poly, a: Poly) -> Decomposition
-    ensures { λ r. ⌜ r ≡ decompositionOf (splitBy (termsOf f) (termsOf df) (termsOf a)) ⌝ }
+    requires { ⌜ f ≡ polyOf (termsOf f) ⌝ }
+    ensures { λ r. ⌜ r ≡ decompositionOf (foundOr (termsOf f) (splitBy (termsOf f) (termsOf df) (termsOf a))) ⌝ }
 {
     let q = remainders::divide(f, a);
     let oq = q.outcome;
@@ -218,7 +278,7 @@ fn split_by(f: Poly, df: Poly, a: Poly) -> Decomposition
     }
     let rest_b = q.rest;
     if rest_b.length() > 0 {
-        return nothing();
+        return whole(f);
     }
     let r = remainders::divide(df, a);
     let or = r.outcome;
@@ -227,16 +287,17 @@ fn split_by(f: Poly, df: Poly, a: Poly) -> Decomposition
     }
     let rest_c = r.rest;
     if rest_c.length() > 0 {
-        return nothing();
+        return whole(f);
     }
     let b = q.quotient;
     let c = r.quotient;
-    rounds(f.length(), b, c)
+    rounds(f, b, c)
 }
 
-// The factors of a monic polynomial; none where it stays whole.
+// The factors of a monic polynomial; what isn't split stays whole.
 fn split(f: Poly) -> Decomposition
-    ensures { λ r. ⌜ r ≡ decompositionOf (splitOf (termsOf f)) ⌝ }
+    requires { ⌜ f ≡ polyOf (termsOf f) ⌝ }
+    ensures { λ r. ⌜ r ≡ decompositionOf (foundOr (termsOf f) (splitOf (termsOf f))) ⌝ }
 {
     let d = f.differentiate();
     let od = d.outcome;
@@ -245,7 +306,7 @@ fn split(f: Poly) -> Decomposition
     }
     let df = d.poly;
     if df.length() == 0 {
-        return nothing();
+        return whole(f);
     }
     let g = remainders::greatest(f, df);
     let og = g.outcome;
@@ -256,7 +317,7 @@ fn split(f: Poly) -> Decomposition
     split_by(f, df, a)
 }
 
-// Yun's decomposition: monic factors with their multiplicities; of zero none. What isn't split stays whole.
+// Yun's decomposition: monic factors with their multiplicities; of zero none.
 pub fn decompose(f: Poly) -> Decomposition
     ensures is { λ r. ⌜ r ≡ decompositionOf (squareFrees (termsOf f)) ⌝ }
 {
@@ -269,14 +330,5 @@ pub fn decompose(f: Poly) -> Decomposition
         return refused(why);
     }
     let p = m.poly;
-    let found = split(p);
-    let o = found.outcome;
-    if let Outcome::Refused(_) = o {
-        return found;
-    }
-    let n = found.len;
-    if n > 0 {
-        return found;
-    }
-    push(nothing(), p, 1)
+    split(p)
 }

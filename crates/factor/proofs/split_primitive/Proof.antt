@@ -26,21 +26,18 @@ enum-told c = search needs
 decompose-requires : tie.Need-decompose-requires
 decompose-requires c κs = tt
 
-enum-known-od : tie.Need-enum-known-od
-enum-known-od c = search needs
-
-refused-requires-2 : tie.Need-refused-requires-2
-refused-requires-2 c κs = tt
+enum-told-2 : tie.Need-enum-told-2
+enum-told-2 c = search needs
 
 returns-2 : tie.Need-returns-2
 returns-2 c =
-    let d = c .before .before .before .before in
+    let d = c .before .before in
     let a = d .before .before .before .before in
     let s = a .before .args in
-    c .refused2 .ensures ∙ decomposition-refused (s .p) (s .budget) (a .primitive-part .result) (a .primitive-part .ensures .0) (d .before .before .enum-told .given .1) (d .decompose .result) (d .decompose .ensures) _ (c .before .before .od .given .1)
+    decomposition-refused (s .p) (s .budget) (a .primitive-part .result) (a .primitive-part .ensures .0) (d .before .before .enum-told .given .1) (d .decompose .result) (d .decompose .ensures) _ (c .enum-told2 .given .1)
 
-enum-told-2 : tie.Need-enum-told-2
-enum-told-2 c = search needs
+enum-told-3 : tie.Need-enum-told-3
+enum-told-3 c = search needs
 
 split-all-requires : tie.Need-split-all-requires
 split-all-requires c κs = tt
@@ -50,7 +47,7 @@ returns-3 c =
     let d = c .before .before .before in
     let a = d .before .before .before .before in
     let s = a .before .args in
-    all-split (s .p) (s .budget) (a .primitive-part .result) (a .primitive-part .ensures .0) (d .before .before .enum-told .given .1) (d .decompose .result) (d .decompose .ensures) (c .before .enum-told2 .given .1) (c .split-all .result) (c .split-all .ensures)
+    all-split (s .p) (s .budget) (a .primitive-part .result) (a .primitive-part .ensures .0) (d .before .before .enum-told .given .1) (d .decompose .result) (d .decompose .ensures) (c .before .enum-told3 .given .1) (c .split-all .result) (c .split-all .ensures)
 
 pub split-primitive-spec : {M : Type 1} → statement M
 split-primitive-spec =
@@ -62,9 +59,8 @@ split-primitive-spec =
     returns
     enum-told
     decompose-requires
-    enum-known-od
-    refused-requires-2
-    returns-2
     enum-told-2
+    returns-2
+    enum-told-3
     split-all-requires
     returns-3)

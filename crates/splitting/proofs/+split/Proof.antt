@@ -108,37 +108,46 @@ split-enum-told-3 t c = search needs
 split-length-requires-2 : (t : ℕ) → split-lts.Need-length-requires-2 (calls t) (split-at t) split.Post
 split-length-requires-2 t c κs = tt
 
-split-split-requires : (t : ℕ) → split-lts.Need-split-requires (calls t) (split-at t) split.Post
-split-split-requires t c κs =
+split-returns-5 : (t : ℕ) → split-lts.Need-returns-5 (calls t) (split-at t) split.Post
+split-returns-5 t c =
     let z = c .before .before .before .before .before .before .before .before .before .before .before .before .before .before .before in
     let s = z .args in
     let n = c .before .before .before .before .before .before .before .before .before .before .before .before .before .before in
     let r = c .before .before .before .before .before .before .before .before .before .before .before in
-    (omega (arith, z .pre .0, n .length .ensures, c .before .length2 .ensures), (peel-kept-list (termsOf (s .f)) (s .times) (s .budget) (s .found) (z .pre .1 .0) (omega (arith, n .length .ensures)) (r .roots-of .result) (r .roots-of .ensures) (c .before .before .before .before .before .before .before .before .before .enum-told .given .1) (omega (arith, c .before .before .before .before .before .before .before .if3 .taken)) (c .before .before .before .before .before .before .peel .result) (c .before .before .before .before .before .before .peel .ensures) (c .before .before .enum-told3 .given .1), peel-padded (termsOf (s .f)) (s .times) (s .budget) (s .found) (z .pre .1 .0) (omega (arith, n .length .ensures)) (r .roots-of .result) (r .roots-of .ensures) (c .before .before .before .before .before .before .before .before .before .enum-told .given .1) (omega (arith, c .before .before .before .before .before .before .before .if3 .taken)) (c .before .before .before .before .before .before .peel .result) (c .before .before .before .before .before .before .peel .ensures) (c .before .before .enum-told3 .given .1)))
+    let l = c .before .before .before .before .before .before .peel .result in
+    splits-rest (termsOf (s .f)) (s .times) (s .budget) (s .found) (z .pre .1 .0) (omega (arith, n .length .ensures)) (r .roots-of .result) (r .roots-of .ensures) (c .before .before .before .before .before .before .before .before .before .enum-told .given .1) (omega (arith, c .before .before .before .before .before .before .before .if3 .taken)) (c .before .before .before .before .before .before .peel .result) (c .before .before .before .before .before .before .peel .ensures) (c .before .before .enum-told3 .given .1) (omega (arith, n .length .ensures, c .before .length2 .ensures)) (l .found) (splits-none (termsOf (l .rest)) (s .times) (s .budget) (l .found) (peel-kept-list (termsOf (s .f)) (s .times) (s .budget) (s .found) (z .pre .1 .0) (omega (arith, n .length .ensures)) (r .roots-of .result) (r .roots-of .ensures) (c .before .before .before .before .before .before .before .before .before .enum-told .given .1) (omega (arith, c .before .before .before .before .before .before .before .if3 .taken)) (c .before .before .before .before .before .before .peel .result) (c .before .before .before .before .before .before .peel .ensures) (c .before .before .enum-told3 .given .1)) (omega (arith, c .before .length2 .ensures)))
 
-split-returns-5 : (t : ℕ) → split-lts.Need-returns-5 (calls t) (split-at t) split.Post
-split-returns-5 t c =
+split-split-requires : (t : ℕ) → split-lts.Need-split-requires (calls t) (split-at t) split.Post
+split-split-requires t c κs =
     let z = c .before .before .before .before .before .before .before .before .before .before .before .before .before .before .before .before in
     let s = z .args in
     let n = c .before .before .before .before .before .before .before .before .before .before .before .before .before .before .before in
     let r = c .before .before .before .before .before .before .before .before .before .before .before .before in
-    splits-rest (termsOf (s .f)) (s .times) (s .budget) (s .found) (z .pre .1 .0) (omega (arith, n .length .ensures)) (r .roots-of .result) (r .roots-of .ensures) (c .before .before .before .before .before .before .before .before .before .before .enum-told .given .1) (omega (arith, c .before .before .before .before .before .before .before .before .if3 .taken)) (c .before .before .before .before .before .before .before .peel .result) (c .before .before .before .before .before .before .before .peel .ensures) (c .before .before .before .enum-told3 .given .1) (omega (arith, n .length .ensures, c .before .before .length2 .ensures)) (c .split .result) (c .split .ensures)
-
-split-add-requires-2 : (t : ℕ) → split-lts.Need-add-requires-2 (calls t) (split-at t) split.Post
-split-add-requires-2 t c κs =
-    let z = c .before .before .before .before .before .before .before .before .before .before .before .before .before .before .before in
-    let s = z .args in
-    let n = c .before .before .before .before .before .before .before .before .before .before .before .before .before .before in
-    let r = c .before .before .before .before .before .before .before .before .before .before .before in
-    (peel-kept-list (termsOf (s .f)) (s .times) (s .budget) (s .found) (z .pre .1 .0) (omega (arith, n .length .ensures)) (r .roots-of .result) (r .roots-of .ensures) (c .before .before .before .before .before .before .before .before .before .enum-told .given .1) (omega (arith, c .before .before .before .before .before .before .before .if3 .taken)) (c .before .before .before .before .before .before .peel .result) (c .before .before .before .before .before .before .peel .ensures) (c .before .before .enum-told3 .given .1), peel-padded (termsOf (s .f)) (s .times) (s .budget) (s .found) (z .pre .1 .0) (omega (arith, n .length .ensures)) (r .roots-of .result) (r .roots-of .ensures) (c .before .before .before .before .before .before .before .before .before .enum-told .given .1) (omega (arith, c .before .before .before .before .before .before .before .if3 .taken)) (c .before .before .before .before .before .before .peel .result) (c .before .before .before .before .before .before .peel .ensures) (c .before .before .enum-told3 .given .1))
+    (omega (arith, z .pre .0, n .length .ensures, c .before .before .length2 .ensures), (peel-kept-list (termsOf (s .f)) (s .times) (s .budget) (s .found) (z .pre .1 .0) (omega (arith, n .length .ensures)) (r .roots-of .result) (r .roots-of .ensures) (c .before .before .before .before .before .before .before .before .before .before .enum-told .given .1) (omega (arith, c .before .before .before .before .before .before .before .before .if3 .taken)) (c .before .before .before .before .before .before .before .peel .result) (c .before .before .before .before .before .before .before .peel .ensures) (c .before .before .before .enum-told3 .given .1), peel-padded (termsOf (s .f)) (s .times) (s .budget) (s .found) (z .pre .1 .0) (omega (arith, n .length .ensures)) (r .roots-of .result) (r .roots-of .ensures) (c .before .before .before .before .before .before .before .before .before .before .enum-told .given .1) (omega (arith, c .before .before .before .before .before .before .before .before .if3 .taken)) (c .before .before .before .before .before .before .before .peel .result) (c .before .before .before .before .before .before .before .peel .ensures) (c .before .before .before .enum-told3 .given .1)))
 
 split-returns-6 : (t : ℕ) → split-lts.Need-returns-6 (calls t) (split-at t) split.Post
 split-returns-6 t c =
+    let z = c .before .before .before .before .before .before .before .before .before .before .before .before .before .before .before .before .before in
+    let s = z .args in
+    let n = c .before .before .before .before .before .before .before .before .before .before .before .before .before .before .before .before in
+    let r = c .before .before .before .before .before .before .before .before .before .before .before .before .before in
+    splits-rest (termsOf (s .f)) (s .times) (s .budget) (s .found) (z .pre .1 .0) (omega (arith, n .length .ensures)) (r .roots-of .result) (r .roots-of .ensures) (c .before .before .before .before .before .before .before .before .before .before .before .enum-told .given .1) (omega (arith, c .before .before .before .before .before .before .before .before .before .if3 .taken)) (c .before .before .before .before .before .before .before .before .peel .result) (c .before .before .before .before .before .before .before .before .peel .ensures) (c .before .before .before .before .enum-told3 .given .1) (omega (arith, n .length .ensures, c .before .before .before .length2 .ensures)) (c .split .result) (c .split .ensures)
+
+split-add-requires-2 : (t : ℕ) → split-lts.Need-add-requires-2 (calls t) (split-at t) split.Post
+split-add-requires-2 t c κs =
     let z = c .before .before .before .before .before .before .before .before .before .before .before .before .before .before .before .before in
     let s = z .args in
     let n = c .before .before .before .before .before .before .before .before .before .before .before .before .before .before .before in
     let r = c .before .before .before .before .before .before .before .before .before .before .before .before in
-    splits-kept (termsOf (s .f)) (s .times) (s .budget) (s .found) (z .pre .1 .0) (omega (arith, n .length .ensures)) (r .roots-of .result) (r .roots-of .ensures) (c .before .before .before .before .before .before .before .before .before .before .enum-told .given .1) (omega (arith, c .before .before .before .before .before .before .before .before .if3 .taken)) (c .before .before .before .before .before .before .before .peel .result) (c .before .before .before .before .before .before .before .peel .ensures) (c .before .before .before .enum-told3 .given .1) (omega (arith, n .length .ensures, c .before .before .length2 .ensures)) (c .add2 .result) (c .add2 .ensures)
+    (peel-kept-list (termsOf (s .f)) (s .times) (s .budget) (s .found) (z .pre .1 .0) (omega (arith, n .length .ensures)) (r .roots-of .result) (r .roots-of .ensures) (c .before .before .before .before .before .before .before .before .before .before .enum-told .given .1) (omega (arith, c .before .before .before .before .before .before .before .before .if3 .taken)) (c .before .before .before .before .before .before .before .peel .result) (c .before .before .before .before .before .before .before .peel .ensures) (c .before .before .before .enum-told3 .given .1), peel-padded (termsOf (s .f)) (s .times) (s .budget) (s .found) (z .pre .1 .0) (omega (arith, n .length .ensures)) (r .roots-of .result) (r .roots-of .ensures) (c .before .before .before .before .before .before .before .before .before .before .enum-told .given .1) (omega (arith, c .before .before .before .before .before .before .before .before .if3 .taken)) (c .before .before .before .before .before .before .before .peel .result) (c .before .before .before .before .before .before .before .peel .ensures) (c .before .before .before .enum-told3 .given .1))
+
+split-returns-7 : (t : ℕ) → split-lts.Need-returns-7 (calls t) (split-at t) split.Post
+split-returns-7 t c =
+    let z = c .before .before .before .before .before .before .before .before .before .before .before .before .before .before .before .before .before in
+    let s = z .args in
+    let n = c .before .before .before .before .before .before .before .before .before .before .before .before .before .before .before .before in
+    let r = c .before .before .before .before .before .before .before .before .before .before .before .before .before in
+    splits-kept (termsOf (s .f)) (s .times) (s .budget) (s .found) (z .pre .1 .0) (omega (arith, n .length .ensures)) (r .roots-of .result) (r .roots-of .ensures) (c .before .before .before .before .before .before .before .before .before .before .before .enum-told .given .1) (omega (arith, c .before .before .before .before .before .before .before .before .before .if3 .taken)) (c .before .before .before .before .before .before .before .before .peel .result) (c .before .before .before .before .before .before .before .before .peel .ensures) (c .before .before .before .before .enum-told3 .given .1) (omega (arith, n .length .ensures, c .before .before .before .length2 .ensures)) (c .add2 .result) (c .add2 .ensures)
 
 split-halve-requires : (t : ℕ) → split-lts.Need-halve-requires (calls t) (split-at t) split.Post
 split-halve-requires t c κs = tt
@@ -149,8 +158,8 @@ split-enum-known-po t c = search needs
 split-refused-requires-2 : (t : ℕ) → split-lts.Need-refused-requires-2 (calls t) (split-at t) split.Post
 split-refused-requires-2 t c κs = tt
 
-split-returns-7 : (t : ℕ) → split-lts.Need-returns-7 (calls t) (split-at t) split.Post
-split-returns-7 t c =
+split-returns-8 : (t : ℕ) → split-lts.Need-returns-8 (calls t) (split-at t) split.Post
+split-returns-8 t c =
     let z = c .before .before .before .before .before .before .before .before .before .before .before .before .before in
     let s = z .args in
     let n = c .before .before .before .before .before .before .before .before .before .before .before .before in
@@ -163,13 +172,13 @@ split-enum-told-4 t c = search needs
 split-add-requires-3 : (t : ℕ) → split-lts.Need-add-requires-3 (calls t) (split-at t) split.Post
 split-add-requires-3 t c κs = (c .before .before .before .before .before .before .before .before .before .before .before .before .before .pre .1 .0, c .before .before .before .before .before .before .before .before .before .before .before .before .before .pre .1 .1)
 
-split-returns-8 : (t : ℕ) → split-lts.Need-returns-8 (calls t) (split-at t) split.Post
-split-returns-8 t c =
+split-returns-9 : (t : ℕ) → split-lts.Need-returns-9 (calls t) (split-at t) split.Post
+split-returns-9 t c =
     let z = c .before .before .before .before .before .before .before .before .before .before .before .before .before .before in
     let s = z .args in
     let n = c .before .before .before .before .before .before .before .before .before .before .before .before .before in
     let r = c .before .before .before .before .before .before .before .before .before .before in
-    splits-whole (termsOf (s .f)) (s .times) (s .budget) (s .found) (z .pre .1 .0) (omega (arith, n .length .ensures)) (r .roots-of .result) (r .roots-of .ensures) (c .before .before .before .before .before .before .before .before .enum-told .given .1) (omega (arith, c .before .before .before .before .before .before .if3 .left)) (c .before .before .before .before .before .halve .result) (c .before .before .before .before .before .halve .ensures .0) (c .before .before .before .enum-told4 .given .1) (not-true _ (c .before .if5 .taken)) (c .add3 .result) (c .add3 .ensures)
+    splits-whole (termsOf (s .f)) (s .times) (s .budget) (s .found) (z .pre .1 .0) (omega (arith, n .length .ensures)) (r .roots-of .result) (r .roots-of .ensures) (c .before .before .before .before .before .before .before .before .enum-told .given .1) (omega (arith, c .before .before .before .before .before .before .if3 .left)) (c .before .before .before .before .before .halve .result) (c .before .before .before .before .before .halve .ensures .0) (c .before .before .before .enum-told4 .given .1) (not-true _ (c .before .if6 .taken)) (c .add3 .result) (c .add3 .ensures)
 
 split-split-requires-2 : (t : ℕ) → split-lts.Need-split-requires-2 (calls t) (split-at t) split.Post
 split-split-requires-2 t c κs =
@@ -177,18 +186,18 @@ split-split-requires-2 t c κs =
     let s = z .args in
     let n = c .before .before .before .before .before .before .before .before .before .before .before .before .before .before in
     let r = c .before .before .before .before .before .before .before .before .before .before .before in
-    (omega (arith, z .pre .0, first-shorter (termsOf (s .f)) (s .times) (s .budget) (s .found) (z .pre .1 .0) (omega (arith, n .length .ensures)) (r .roots-of .result) (r .roots-of .ensures) (c .before .before .before .before .before .before .before .before .before .enum-told .given .1) (omega (arith, c .before .before .before .before .before .before .before .if3 .left)) (c .before .before .before .before .before .before .halve .result) (c .before .before .before .before .before .before .halve .ensures .0) (c .before .before .before .before .enum-told4 .given .1) (not-false _ (c .before .before .if5 .left))), (z .pre .1 .0, c .before .before .before .before .before .before .halve .ensures .1 .factor))
+    (omega (arith, z .pre .0, first-shorter (termsOf (s .f)) (s .times) (s .budget) (s .found) (z .pre .1 .0) (omega (arith, n .length .ensures)) (r .roots-of .result) (r .roots-of .ensures) (c .before .before .before .before .before .before .before .before .before .enum-told .given .1) (omega (arith, c .before .before .before .before .before .before .before .if3 .left)) (c .before .before .before .before .before .before .halve .result) (c .before .before .before .before .before .before .halve .ensures .0) (c .before .before .before .before .enum-told4 .given .1) (not-false _ (c .before .before .if6 .left))), (z .pre .1 .0, c .before .before .before .before .before .before .halve .ensures .1 .factor))
 
 split-enum-told-5 : (t : ℕ) → split-lts.Need-enum-told-5 (calls t) (split-at t) split.Post
 split-enum-told-5 t c = search needs
 
-split-returns-9 : (t : ℕ) → split-lts.Need-returns-9 (calls t) (split-at t) split.Post
-split-returns-9 t c =
+split-returns-10 : (t : ℕ) → split-lts.Need-returns-10 (calls t) (split-at t) split.Post
+split-returns-10 t c =
     let z = c .before .before .before .before .before .before .before .before .before .before .before .before .before .before .before .before .before .before in
     let s = z .args in
     let n = c .before .before .before .before .before .before .before .before .before .before .before .before .before .before .before .before .before in
     let r = c .before .before .before .before .before .before .before .before .before .before .before .before .before .before in
-    splits-half (termsOf (s .f)) (s .times) (s .budget) (s .found) (z .pre .1 .0) (omega (arith, n .length .ensures)) (r .roots-of .result) (r .roots-of .ensures) (c .before .before .before .before .before .before .before .before .before .before .before .before .enum-told .given .1) (omega (arith, c .before .before .before .before .before .before .before .before .before .before .if3 .left)) (c .before .before .before .before .before .before .before .before .before .halve .result) (c .before .before .before .before .before .before .before .before .before .halve .ensures .0) (c .before .before .before .before .before .before .before .enum-told4 .given .1) (not-false _ (c .before .before .before .before .before .if5 .left)) (c .before .before .split2 .result) (c .before .before .split2 .ensures) _ (c .enum-told5 .given .1)
+    splits-half (termsOf (s .f)) (s .times) (s .budget) (s .found) (z .pre .1 .0) (omega (arith, n .length .ensures)) (r .roots-of .result) (r .roots-of .ensures) (c .before .before .before .before .before .before .before .before .before .before .before .before .enum-told .given .1) (omega (arith, c .before .before .before .before .before .before .before .before .before .before .if3 .left)) (c .before .before .before .before .before .before .before .before .before .halve .result) (c .before .before .before .before .before .before .before .before .before .halve .ensures .0) (c .before .before .before .before .before .before .before .enum-told4 .given .1) (not-false _ (c .before .before .before .before .before .if6 .left)) (c .before .before .split2 .result) (c .before .before .split2 .ensures) _ (c .enum-told5 .given .1)
 
 split-enum-told-6 : (t : ℕ) → split-lts.Need-enum-told-6 (calls t) (split-at t) split.Post
 split-enum-told-6 t c = search needs
@@ -199,15 +208,15 @@ split-split-requires-3 t c κs =
     let s = z .args in
     let n = c .before .before .before .before .before .before .before .before .before .before .before .before .before .before .before .before .before in
     let r = c .before .before .before .before .before .before .before .before .before .before .before .before .before .before in
-    (omega (arith, z .pre .0, second-shorter (termsOf (s .f)) (s .times) (s .budget) (s .found) (z .pre .1 .0) (omega (arith, n .length .ensures)) (r .roots-of .result) (r .roots-of .ensures) (c .before .before .before .before .before .before .before .before .before .before .before .before .enum-told .given .1) (omega (arith, c .before .before .before .before .before .before .before .before .before .before .if3 .left)) (c .before .before .before .before .before .before .before .before .before .halve .result) (c .before .before .before .before .before .before .before .before .before .halve .ensures .0) (c .before .before .before .before .before .before .before .enum-told4 .given .1) (not-false _ (c .before .before .before .before .before .if5 .left))), (half-kept (termsOf (s .f)) (s .times) (s .budget) (s .found) (z .pre .1 .0) (omega (arith, n .length .ensures)) (r .roots-of .result) (r .roots-of .ensures) (c .before .before .before .before .before .before .before .before .before .before .before .before .enum-told .given .1) (omega (arith, c .before .before .before .before .before .before .before .before .before .before .if3 .left)) (c .before .before .before .before .before .before .before .before .before .halve .result) (c .before .before .before .before .before .before .before .before .before .halve .ensures .0) (c .before .before .before .before .before .before .before .enum-told4 .given .1) (not-false _ (c .before .before .before .before .before .if5 .left)) (c .before .before .split2 .result) (c .before .before .split2 .ensures) (c .enum-told6 .given .1), c .before .before .before .before .before .before .before .before .before .halve .ensures .1 .quotient))
+    (omega (arith, z .pre .0, second-shorter (termsOf (s .f)) (s .times) (s .budget) (s .found) (z .pre .1 .0) (omega (arith, n .length .ensures)) (r .roots-of .result) (r .roots-of .ensures) (c .before .before .before .before .before .before .before .before .before .before .before .before .enum-told .given .1) (omega (arith, c .before .before .before .before .before .before .before .before .before .before .if3 .left)) (c .before .before .before .before .before .before .before .before .before .halve .result) (c .before .before .before .before .before .before .before .before .before .halve .ensures .0) (c .before .before .before .before .before .before .before .enum-told4 .given .1) (not-false _ (c .before .before .before .before .before .if6 .left))), (half-kept (termsOf (s .f)) (s .times) (s .budget) (s .found) (z .pre .1 .0) (omega (arith, n .length .ensures)) (r .roots-of .result) (r .roots-of .ensures) (c .before .before .before .before .before .before .before .before .before .before .before .before .enum-told .given .1) (omega (arith, c .before .before .before .before .before .before .before .before .before .before .if3 .left)) (c .before .before .before .before .before .before .before .before .before .halve .result) (c .before .before .before .before .before .before .before .before .before .halve .ensures .0) (c .before .before .before .before .before .before .before .enum-told4 .given .1) (not-false _ (c .before .before .before .before .before .if6 .left)) (c .before .before .split2 .result) (c .before .before .split2 .ensures) (c .enum-told6 .given .1), c .before .before .before .before .before .before .before .before .before .halve .ensures .1 .quotient))
 
-split-returns-10 : (t : ℕ) → split-lts.Need-returns-10 (calls t) (split-at t) split.Post
-split-returns-10 t c =
+split-returns-11 : (t : ℕ) → split-lts.Need-returns-11 (calls t) (split-at t) split.Post
+split-returns-11 t c =
     let z = c .before .before .before .before .before .before .before .before .before .before .before .before .before .before .before .before .before .before .before in
     let s = z .args in
     let n = c .before .before .before .before .before .before .before .before .before .before .before .before .before .before .before .before .before .before in
     let r = c .before .before .before .before .before .before .before .before .before .before .before .before .before .before .before in
-    splits-both (termsOf (s .f)) (s .times) (s .budget) (s .found) (z .pre .1 .0) (omega (arith, n .length .ensures)) (r .roots-of .result) (r .roots-of .ensures) (c .before .before .before .before .before .before .before .before .before .before .before .before .before .enum-told .given .1) (omega (arith, c .before .before .before .before .before .before .before .before .before .before .before .if3 .left)) (c .before .before .before .before .before .before .before .before .before .before .halve .result) (c .before .before .before .before .before .before .before .before .before .before .halve .ensures .0) (c .before .before .before .before .before .before .before .before .enum-told4 .given .1) (not-false _ (c .before .before .before .before .before .before .if5 .left)) (c .before .before .before .split2 .result) (c .before .before .before .split2 .ensures) (c .before .enum-told6 .given .1) (c .split3 .result) (c .split3 .ensures)
+    splits-both (termsOf (s .f)) (s .times) (s .budget) (s .found) (z .pre .1 .0) (omega (arith, n .length .ensures)) (r .roots-of .result) (r .roots-of .ensures) (c .before .before .before .before .before .before .before .before .before .before .before .before .before .enum-told .given .1) (omega (arith, c .before .before .before .before .before .before .before .before .before .before .before .if3 .left)) (c .before .before .before .before .before .before .before .before .before .before .halve .result) (c .before .before .before .before .before .before .before .before .before .before .halve .ensures .0) (c .before .before .before .before .before .before .before .before .enum-told4 .given .1) (not-false _ (c .before .before .before .before .before .before .if6 .left)) (c .before .before .before .split2 .result) (c .before .before .before .split2 .ensures) (c .before .enum-told6 .given .1) (c .split3 .result) (c .split3 .ensures)
 
 pub +split-spec : {M : Type 1} → statement M
 +split-spec = close μ-split λ t. split-lts.spec (calls t)
@@ -227,20 +236,21 @@ pub +split-spec : {M : Type 1} → statement M
     (split-returns-4 t)
     (split-enum-told-3 t)
     (split-length-requires-2 t)
-    (split-split-requires t)
     (split-returns-5 t)
-    (split-add-requires-2 t)
+    (split-split-requires t)
     (split-returns-6 t)
+    (split-add-requires-2 t)
+    (split-returns-7 t)
     (split-halve-requires t)
     (split-enum-known-po t)
     (split-refused-requires-2 t)
-    (split-returns-7 t)
+    (split-returns-8 t)
     (split-enum-told-4 t)
     (split-add-requires-3 t)
-    (split-returns-8 t)
+    (split-returns-9 t)
     (split-split-requires-2 t)
     (split-enum-told-5 t)
-    (split-returns-9 t)
+    (split-returns-10 t)
     (split-enum-told-6 t)
     (split-split-requires-3 t)
-    (split-returns-10 t)
+    (split-returns-11 t)

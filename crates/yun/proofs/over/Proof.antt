@@ -13,7 +13,9 @@ zero-requires-2 : tie.Need-zero-requires-2
 zero-requires-2 c κs = tt
 
 returns : tie.Need-returns
-returns c = ap₂ {C = Round} (λ (p q : Poly). record { more = false; found = c .before .before .args .found; b = p; c = q }) (c .before .zero .ensures) (c .zero2 .ensures)
+returns c =
+    let s = c .before .before .args in
+    ap₂ {C = Round} (λ (p q : Poly). record { outcome = s .outcome; whole = s .whole; more = false; factor = s .factor; b = p; c = q }) (c .before .zero .ensures) (c .zero2 .ensures)
 
 pub over-spec : {M : Type 1} → statement M
 over-spec = tie.close (tie.spec zero-requires zero-requires-2 returns)

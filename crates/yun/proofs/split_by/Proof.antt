@@ -1,14 +1,9 @@
 -- `yun::split_by` meets its contract.
 use mathlib.Core.Path.{ap, _∙_}
-use mathlib.Core.List.{[]}
-use Prim.Native.Nat.{_≤_}
 use native.Mathlib.Omega.{arith}
-use lib.ListN.{length}
-use borrow.Author.Needs.{needs}
 use Rattle.terms.specs.Poly.{termsOf}
-use Rattle.terms.proofs.Lists.{long, within-32}
 use Rattle.yun.specs.Answer.{decompositionOf}
-use Rattle.yun.specs.Yun.{rounds}
+use Rattle.yun.specs.Yun.{foundOr}
 use Rattle.yun.proofs.CodeSplit.{first-refused, first-rest, second-refused, second-rest, split-rounds}
 use Rattle.yun.proofs.split_by.Statement.{statement}
 use Rattle.yun.proofs.split_by.Tie as tie
@@ -27,7 +22,7 @@ returns c =
     let o = c .before .before in
     let q = o .before .before in
     let s = q .before .args in
-    c .refused .ensures ∙ ap decompositionOf (first-refused (termsOf (s .f)) (termsOf (s .df)) (termsOf (s .a)) (q .divide .result) (q .divide .ensures) _ (o .oq .given .1))
+    c .refused .ensures ∙ ap (λ g. decompositionOf (foundOr (termsOf (s .f)) g)) (first-refused (termsOf (s .f)) (termsOf (s .df)) (termsOf (s .a)) (q .divide .result) (q .divide .ensures) _ (o .oq .given .1))
 
 enum-told : tie.Need-enum-told
 enum-told c = c .match .keys2
@@ -35,8 +30,8 @@ enum-told c = c .match .keys2
 length-requires : tie.Need-length-requires
 length-requires c κs = tt
 
-nothing-requires : tie.Need-nothing-requires
-nothing-requires c κs = tt
+whole-requires : tie.Need-whole-requires
+whole-requires c κs = c .before .before .before .before .before .before .pre
 
 returns-2 : tie.Need-returns-2
 returns-2 c =
@@ -44,7 +39,7 @@ returns-2 c =
     let t = l .before .before in
     let q = t .before .before in
     let s = q .before .args in
-    c .nothing .ensures ∙ ap decompositionOf (first-rest (termsOf (s .f)) (termsOf (s .df)) (termsOf (s .a)) (q .divide .result) (q .divide .ensures) (t .enum-told .given .1) (omega (arith, l .length .ensures)))
+    c .whole .ensures ∙ ap (λ g. decompositionOf (foundOr (termsOf (s .f)) g)) (first-rest (termsOf (s .f)) (termsOf (s .df)) (termsOf (s .a)) (q .divide .result) (q .divide .ensures) (t .enum-told .given .1) (omega (arith, l .length .ensures)))
 
 divide-requires-2 : tie.Need-divide-requires-2
 divide-requires-2 c κs = tt
@@ -63,7 +58,7 @@ returns-3 c =
     let t = l .before .before in
     let q = t .before .before in
     let s = q .before .args in
-    c .refused2 .ensures ∙ ap decompositionOf (second-refused (termsOf (s .f)) (termsOf (s .df)) (termsOf (s .a)) (q .divide .result) (q .divide .ensures) (t .enum-told .given .1) (omega (arith, l .length .ensures)) (r .divide2 .result) (r .divide2 .ensures) _ (o .or .given .1))
+    c .refused2 .ensures ∙ ap (λ g. decompositionOf (foundOr (termsOf (s .f)) g)) (second-refused (termsOf (s .f)) (termsOf (s .df)) (termsOf (s .a)) (q .divide .result) (q .divide .ensures) (t .enum-told .given .1) (omega (arith, l .length .ensures)) (r .divide2 .result) (r .divide2 .ensures) _ (o .or .given .1))
 
 enum-told-2 : tie.Need-enum-told-2
 enum-told-2 c = c .match2 .keys2
@@ -71,8 +66,8 @@ enum-told-2 c = c .match2 .keys2
 length-requires-2 : tie.Need-length-requires-2
 length-requires-2 c κs = tt
 
-nothing-requires-2 : tie.Need-nothing-requires-2
-nothing-requires-2 c κs = tt
+whole-requires-2 : tie.Need-whole-requires-2
+whole-requires-2 c κs = c .before .before .before .before .before .before .before .before .before .before .before .before .pre
 
 returns-4 : tie.Need-returns-4
 returns-4 c =
@@ -83,27 +78,19 @@ returns-4 c =
     let t = l .before .before in
     let q = t .before .before in
     let s = q .before .args in
-    c .nothing2 .ensures ∙ ap decompositionOf (second-rest (termsOf (s .f)) (termsOf (s .df)) (termsOf (s .a)) (q .divide .result) (q .divide .ensures) (t .enum-told .given .1) (omega (arith, l .length .ensures)) (r .divide2 .result) (r .divide2 .ensures) (u .enum-told2 .given .1) (omega (arith, k .length2 .ensures)))
-
-length-requires-3 : tie.Need-length-requires-3
-length-requires-3 c κs = tt
-
-short : (c : tie.Start) → length (termsOf (c .args .f)) ≤ 32
-short c = within-32 (c .args .f .len) (c .args .f .coeffs) (search (needs, long))
+    c .whole2 .ensures ∙ ap (λ g. decompositionOf (foundOr (termsOf (s .f)) g)) (second-rest (termsOf (s .f)) (termsOf (s .df)) (termsOf (s .a)) (q .divide .result) (q .divide .ensures) (t .enum-told .given .1) (omega (arith, l .length .ensures)) (r .divide2 .result) (r .divide2 .ensures) (u .enum-told2 .given .1) (omega (arith, k .length2 .ensures)))
 
 rounds-requires : tie.Need-rounds-requires
 rounds-requires c κs =
-    let r = c .before .before .before .before .before .before .before .before in
+    let r = c .before .before .before .before .before .before .before in
     let l = r .before .before in
     let t = l .before .before in
     let q = t .before .before in
-    let s = q .before .args in
-    omega (arith, c .length3 .ensures, short (q .before))
+    q .before .pre
 
 returns-5 : tie.Need-returns-5
 returns-5 c =
-    let m = c .before in
-    let e = m .before .before .before in
+    let e = c .before .before .before in
     let k = e .before in
     let u = k .before .before in
     let r = u .before .before in
@@ -112,8 +99,7 @@ returns-5 c =
     let q = t .before .before in
     let s = q .before .args in
     c .rounds .ensures
-    ∙ ap (λ n. decompositionOf (rounds n 1 (termsOf (q .divide .result .quotient)) (termsOf (r .divide2 .result .quotient)) [])) (m .length3 .ensures)
-    ∙ ap decompositionOf (split-rounds (termsOf (s .f)) (termsOf (s .df)) (termsOf (s .a)) (q .divide .result) (q .divide .ensures) (t .enum-told .given .1) (omega (arith, l .length .ensures)) (r .divide2 .result) (r .divide2 .ensures) (u .enum-told2 .given .1) (omega (arith, k .length2 .ensures, e .if2 .left)))
+    ∙ ap (λ g. decompositionOf (foundOr (termsOf (s .f)) g)) (split-rounds (termsOf (s .f)) (termsOf (s .df)) (termsOf (s .a)) (q .divide .result) (q .divide .ensures) (t .enum-told .given .1) (omega (arith, l .length .ensures)) (r .divide2 .result) (r .divide2 .ensures) (u .enum-told2 .given .1) (omega (arith, k .length2 .ensures, e .if2 .left)))
 
 pub split-by-spec : {M : Type 1} → statement M
 split-by-spec =
@@ -125,7 +111,7 @@ split-by-spec =
     returns
     enum-told
     length-requires
-    nothing-requires
+    whole-requires
     returns-2
     divide-requires-2
     enum-known-or
@@ -133,8 +119,7 @@ split-by-spec =
     returns-3
     enum-told-2
     length-requires-2
-    nothing-requires-2
+    whole-requires-2
     returns-4
-    length-requires-3
     rounds-requires
     returns-5)
