@@ -152,7 +152,7 @@ fn bisect_isolate_inner(
     a: f64,
     b: f64,
     tol: f64,
-    found: Brackets,
+    mut found: Brackets,
     depth: usize,
 ) -> Brackets
     requires { ⌜ Kept found ⌝ }
@@ -178,11 +178,12 @@ fn bisect_isolate_inner(
     let s = split_at(c, a, b, tol);
     let now = mark(found, s.exact, s.mid);
     if s.left {
-        let first = bisect_isolate_inner(c, a, s.lo, tol, now, depth - 1);
+        // Kept where the earlier ones were: a level of the recursion has no room to waste.
+        found = bisect_isolate_inner(c, a, s.lo, tol, now, depth - 1);
         if s.right {
-            return bisect_isolate_inner(c, s.hi, b, tol, first, depth - 1);
+            return bisect_isolate_inner(c, s.hi, b, tol, found, depth - 1);
         }
-        return first;
+        return found;
     }
     if s.right {
         return bisect_isolate_inner(c, s.hi, b, tol, now, depth - 1);

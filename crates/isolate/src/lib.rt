@@ -204,8 +204,8 @@ fn isolate_plain(p: Poly, lo: f64, hi: f64, tol: f64) -> Isolation
 }
 
 // The tolerance is finite and above 0, the ends are within ±1e15.
-fn limits(lo: f64, hi: f64, tol: f64) -> Gate
-    ensures { λ r. ⌜ r ≡ limitsOf lo hi tol ⌝ }
+pub fn limits(lo: f64, hi: f64, tol: f64) -> Gate
+    ensures is { λ r. ⌜ r ≡ limitsOf lo hi tol ⌝ }
 {
     if !refine::is_finite(tol) {
         Gate::Bad
