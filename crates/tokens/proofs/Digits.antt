@@ -3,7 +3,7 @@ use mathlib.Core.Path.{_≡_}
 use mathlib.Core.List.{List}
 use Prim.Native.Nat.{ℕ, _+_, _*_, _-_, _^_, _<_, _≤_}
 use native.Mathlib.Omega.{arith}
-use native.Mathlib.Nat.{pow-suc, pow-le-pow-right, mul-le-mul-left}
+use native.Mathlib.Nat.{pow-zero, pow-suc, pow-le-pow-right, mul-le-mul-right}
 use native.Mathlib.Numerals.{add-one}
 use borrow.Author.Tests.{lt-ltb, le-ltb}
 use lib.ListN.{length, drop, getD, drop-of-length-le}
@@ -24,9 +24,16 @@ pub spelled-end : (base n i : ℕ) (l : List ℕ) → length l ≤ i → Is n �
 unfolding numberOf
 spelled-end base n i l h = rw (drop-of-length-le l h)
 
--- i digits of a base up to 16 come to a number below 16 to the i
-pub below : (base n d i : ℕ) → base ≤ 16 → d < base → n < 16 ^ i → n * base + d < 16 ^ (i + 1)
-below base n d i hb hd hn = rw (add-one, pow-suc) (omega (arith, mul-le-mul-left n hb))
+-- i digits of a base come to a number below its power
+pub below : (base n d i : ℕ) → d < base → n < base ^ i → n * base + d < base ^ (i + 1)
+below base n d i hd hn = let h : n + 1 ≤ base ^ i = omega arith in rw (add-one, pow-suc) (omega (arith, mul-le-mul-right base h))
 
-pub power-fits : (i : ℕ) → i ≤ 16 → 16 ^ i ≤ 18446744073709551616
-power-fits i h = pow-le-pow-right (omega arith) h
+pub power-none : (base : ℕ) → 0 < base ^ 0
+power-none base = rw pow-zero (omega arith)
+
+pub power-fits : (base i k : ℕ) → 0 < base → i ≤ k → base ^ k ≤ 18446744073709551616 → base ^ i ≤ 18446744073709551616
+power-fits base i k b h f = omega (arith, pow-le-pow-right b h)
+
+-- 19 digits always fit
+pub ten-fits : (i : ℕ) → i ≤ 19 → 10 ^ i ≤ 18446744073709551616
+ten-fits i h = omega (arith, pow-le-pow-right {n = 10} (omega arith) h)

@@ -14,26 +14,26 @@ use Rattle.tokens.specs.declared.Token.{Token}
 use Rattle.tokens.specs.Spelling.{choose, tokenOf}
 use Rattle.tokens.specs.Words.{wordsOf, wordLength}
 use Rattle.tokens.specs.Heights.{isOther, isBad, after, finish, checkFrom}
-use Rattle.tokens.proofs.Words.{later, words-first, length-bounded}
+use Rattle.tokens.proofs.Words.{laterParts, parts-first, length-bounded}
 
 -- the word from a place to its end
 module _ (s : List ℕ) (at end : ℕ) (h : at ≤ length s) (e : end ≡ at + wordLength (drop at s)) where
   pub end-within : end ≤ length s
-  end-within = omega (arith, length-bounded (drop at s), length-drop at s)
+  end-within = omega (arith, length-bounded 32 (drop at s), length-drop at s)
 
   size : end - at ≡ wordLength (drop at s)
   size = omega arith
 
-  pub words-at : wordsOf (drop at s) ≡ take (end - at) (drop at s) ∷ later (drop end s)
-  words-at = rw (size, e, ← drop-drop) (words-first (drop at s))
+  pub words-at : wordsOf (drop at s) ≡ take (end - at) (drop at s) ∷ laterParts 32 (drop end s)
+  words-at = rw (size, e, ← drop-drop) (parts-first 32 (drop at s))
 
   pub words-last : end ≡ length s → wordsOf (drop at s) ≡ take (end - at) (drop at s) ∷ []
-  words-last z = words-at ∙ ap (λ l. take (end - at) (drop at s) ∷ later l) (drop-of-length-le s {i = end} (omega arith))
+  words-last z = words-at ∙ ap (λ l. take (end - at) (drop at s) ∷ laterParts 32 l) (drop-of-length-le s {i = end} (omega arith))
 
   pub words-more : (end ≡ length s → ⊥) → wordsOf (drop at s) ≡ take (end - at) (drop at s) ∷ wordsOf (drop (end + 1) s)
-  words-more z = rw add-one (words-at ∙ ap (λ l. take (end - at) (drop at s) ∷ later l) (drop-cons s end 0 (omega (arith, end-within, z))))
+  words-more z = rw add-one (words-at ∙ ap (λ l. take (end - at) (drop at s) ∷ laterParts 32 l) (drop-cons s end 0 (omega (arith, end-within, z))))
 
-  word-length : at + length (take (end - at) (drop at s)) + 1 ≡ end + 1
+  pub word-length : at + length (take (end - at) (drop at s)) + 1 ≡ end + 1
   word-length = omega (arith, length-take-le (end - at) (drop at s) (omega (arith, end-within, length-drop at s)))
 
   module _ (H : Height) where

@@ -6,8 +6,9 @@ use native.Mathlib.Omega.{arith}
 use borrow.Author.Tests.{lt-ltb, le-ltb, eq-eqb, ne-eqb}
 use lib.ListN.{length, take, drop, getD, length-drop}
 use lib.Seq.{take-all}
+use Rattle.tokens.specs.declared.Number.the-variants.{Nothing}
 use Rattle.tokens.specs.declared.Token.the-variants.{Malformed}
-use Rattle.tokens.specs.Spelling.{numberOf, bitsOf, constOf, powOf, indexOf, varOf, markOf, tokenOf}
+use Rattle.tokens.specs.Spelling.{numberOf, bitsOf, constOf, powOf, naturalOf, varOf, markOf, tokenOf}
 
 -- all but the first byte
 pub tail-whole : (w : List ℕ) → take (length w - 1) (drop 1 w) ≡ drop 1 w
@@ -48,31 +49,31 @@ token-else [] h e f g = absurd (omega arith)
 token-else (b ∷ []) h e f g = absurd (omega arith)
 token-else (b ∷ d ∷ l) h e f g = rw (ne-eqb b 99 e, ne-eqb b 94 f, ne-eqb b 118 g)
 
-pub var-long : (l : List ℕ) → 3 < length l → Malformed ≡ varOf l
-unfolding varOf
-var-long [] h = refl
-var-long (a ∷ []) h = absurd (omega arith)
-var-long (a ∷ b ∷ l) h = rw (lt-ltb 1 (length l) (omega arith))
+pub natural-long : (l : List ℕ) → 19 < length l → Nothing ≡ naturalOf l
+unfolding naturalOf
+natural-long [] h = refl
+natural-long (a ∷ []) h = absurd (omega arith)
+natural-long (a ∷ b ∷ l) h = rw (lt-ltb 17 (length l) (omega arith))
 
-pub var-none : (l : List ℕ) → length l ≡ 0 → Malformed ≡ varOf l
-unfolding varOf
-var-none [] h = refl
-var-none (a ∷ l) h = absurd (omega arith)
+pub natural-none : (l : List ℕ) → length l ≡ 0 → Nothing ≡ naturalOf l
+unfolding naturalOf
+natural-none [] h = refl
+natural-none (a ∷ l) h = absurd (omega arith)
 
-pub var-one : (l : List ℕ) → length l ≡ 1 → indexOf (numberOf 10 0 l) ≡ varOf l
-unfolding varOf
-var-one [] h = absurd (omega arith)
-var-one (a ∷ []) h = refl
-var-one (a ∷ b ∷ l) h = absurd (omega arith)
+pub natural-one : (l : List ℕ) → length l ≡ 1 → numberOf 10 0 l ≡ naturalOf l
+unfolding naturalOf
+natural-one [] h = absurd (omega arith)
+natural-one (a ∷ []) h = refl
+natural-one (a ∷ b ∷ l) h = absurd (omega arith)
 
-pub var-zero : (l : List ℕ) → 1 < length l → getD l 0 0 ≡ 48 → length l ≤ 3 → Malformed ≡ varOf l
-unfolding varOf
-var-zero [] h e k = absurd (omega arith)
-var-zero (a ∷ []) h e k = absurd (omega arith)
-var-zero (a ∷ b ∷ l) h e k = rw (le-ltb 1 (length l) (omega arith), eq-eqb a 48 e)
+pub natural-zero : (l : List ℕ) → 1 < length l → getD l 0 0 ≡ 48 → length l ≤ 19 → Nothing ≡ naturalOf l
+unfolding naturalOf
+natural-zero [] h e k = absurd (omega arith)
+natural-zero (a ∷ []) h e k = absurd (omega arith)
+natural-zero (a ∷ b ∷ l) h e k = rw (le-ltb 17 (length l) (omega arith), eq-eqb a 48 e)
 
-pub var-more : (l : List ℕ) → 1 < length l → (getD l 0 0 ≡ 48 → ⊥) → length l ≤ 3 → indexOf (numberOf 10 0 l) ≡ varOf l
-unfolding varOf
-var-more [] h e k = absurd (omega arith)
-var-more (a ∷ []) h e k = absurd (omega arith)
-var-more (a ∷ b ∷ l) h e k = rw (le-ltb 1 (length l) (omega arith), ne-eqb a 48 e)
+pub natural-more : (l : List ℕ) → 1 < length l → (getD l 0 0 ≡ 48 → ⊥) → length l ≤ 19 → numberOf 10 0 l ≡ naturalOf l
+unfolding naturalOf
+natural-more [] h e k = absurd (omega arith)
+natural-more (a ∷ []) h e k = absurd (omega arith)
+natural-more (a ∷ b ∷ l) h e k = rw (le-ltb 17 (length l) (omega arith), ne-eqb a 48 e)

@@ -42,11 +42,15 @@ abbrev pub indexOf : Number → Token
 indexOf (Is n) = choose (ltb 255 n) Malformed (Var n)
 indexOf Nothing = Malformed
 
--- 0 to 255, without leading zeros
+-- a number of at most 19 digits, without leading zeros
+unfoldable pub naturalOf : List ℕ → Number
+naturalOf [] = Nothing
+naturalOf (a ∷ []) = numberOf 10 0 (a ∷ [])
+naturalOf (a ∷ b ∷ l) = choose (ltb 17 (length l)) Nothing (choose (eqb a 48) Nothing (numberOf 10 0 (a ∷ b ∷ l)))
+
+-- 0 to 255
 unfoldable pub varOf : List ℕ → Token
-varOf [] = Malformed
-varOf (a ∷ []) = indexOf (numberOf 10 0 (a ∷ []))
-varOf (a ∷ b ∷ l) = choose (ltb 1 (length l)) Malformed (choose (eqb a 48) Malformed (indexOf (numberOf 10 0 (a ∷ b ∷ l))))
+varOf l = indexOf (naturalOf l)
 
 -- a token of one byte
 unfoldable pub markOf : ℕ → Token

@@ -2,11 +2,11 @@
 use ratio::Outcome;
 use ratio::Reason;
 ghost use mathlib.Core.Path.{_≡_};
-ghost use Prim.Native.Nat.{_+_, _≤_, _<_};
+ghost use Prim.Native.Nat.{_+_, _^_, _≤_, _<_};
 ghost use lib.Ieee.{binary64, ofBits};
 ghost use lib.ListN.{length, drop};
-ghost use Rattle.tokens.specs.Spelling.{digitOf, numberOf, bitsOf, indexOf, markOf, constOf, powOf, varOf, tokenOf};
-ghost use Rattle.tokens.specs.Words.{wordLength};
+ghost use Rattle.tokens.specs.Spelling.{digitOf, numberOf, bitsOf, indexOf, markOf, constOf, powOf, naturalOf, varOf, tokenOf};
+ghost use Rattle.tokens.specs.Words.{lengthTo, wordLength};
 ghost use Rattle.tokens.specs.Heights.{takes as takesOf, isOther, isMalformed, isBad, after as afterOf, roomOf, finish as finishOf, checkOf};
 
 // One token. Constants and exponents are floats, given by their bits.
@@ -23,7 +23,7 @@ pub enum Token {
 }
 
 // A number that is spelled by digits.
-enum Number {
+pub enum Number {
     Is(u64),
     Nothing,
 }
@@ -54,9 +54,9 @@ fn digit(b: u8) -> u64
     }
 }
 
-// The number that at most 16 digits spell.
+// The number that digits spell, as many as always fit.
 fn spelled(digits: &[u8], base: u64) -> Number
-    requires { ⌜ (base ≤ 16) × (length (now digits) ≤ 16) ⌝ }
+    requires { ⌜ base ^ length (now digits) ≤ 18446744073709551616 ⌝ }
     ensures { λ r. ⌜ r ≡ numberOf base 0 (now (digits .entry)) ⌝ }
 {
     let mut n: u64 = 0;
@@ -73,8 +73,8 @@ fn spelled(digits: &[u8], base: u64) -> Number
 }
 
 // The bits that 16 digits spell.
-fn bits(digits: &[u8]) -> Number
-    ensures { λ r. ⌜ r ≡ bitsOf (now (digits .entry)) ⌝ }
+pub fn bits(digits: &[u8]) -> Number
+    ensures is { λ r. ⌜ r ≡ bitsOf (now (digits .entry)) ⌝ }
 {
     if digits.len() == 16 {
         spelled(digits, 16)
@@ -84,8 +84,8 @@ fn bits(digits: &[u8]) -> Number
 }
 
 // `f64::from_bits`; every pattern of a NaN is the NaN.
-fn float(n: u64) -> f64
-    ensures { λ r. ⌜ r ≡ ofBits binary64 n ⌝ }
+pub fn float(n: u64) -> f64
+    ensures is { λ r. ⌜ r ≡ ofBits binary64 n ⌝ }
 {
     if n % 0x8000_0000_0000_0000 > 0x7ff0_0000_0000_0000 {
         0.0 / 0.0
@@ -112,21 +112,28 @@ fn power(digits: &[u8]) -> Token
     }
 }
 
+// A number of at most 19 digits, which always fits, without leading zeros.
+pub fn natural(digits: &[u8]) -> Number
+    ensures is { λ r. ⌜ r ≡ naturalOf (now (digits .entry)) ⌝ }
+{
+    if digits.len() > 19 {
+        Number::Nothing
+    } else if digits.len() == 0 {
+        Number::Nothing
+    } else if digits.len() == 1 {
+        spelled(digits, 10)
+    } else if digits[0] == 48 {
+        Number::Nothing
+    } else {
+        spelled(digits, 10)
+    }
+}
+
 // 0 to 255, without leading zeros.
 fn variable(digits: &[u8]) -> Token
     ensures { λ r. ⌜ r ≡ varOf (now (digits .entry)) ⌝ }
 {
-    if digits.len() > 3 {
-        Token::Malformed
-    } else if digits.len() == 0 {
-        Token::Malformed
-    } else if digits.len() == 1 {
-        index(spelled(digits, 10))
-    } else if digits[0] == 48 {
-        Token::Malformed
-    } else {
-        index(spelled(digits, 10))
-    }
+    index(natural(digits))
 }
 
 fn index(n: Number) -> Token
@@ -182,18 +189,25 @@ pub fn token_of(word: &[u8]) -> Token
     }
 }
 
-// Where the word that starts at a place ends: at a space or at the text's end.
-pub fn word_end(text: &[u8], at: usize) -> usize
-    ensures is { λ r. ⌜ r ≡ at + wordLength (drop at (now (text .entry))) ⌝ }
+// Where the part of a text that starts at a place ends: at the mark or at the text's end.
+pub fn part_end(text: &[u8], at: usize, mark: u8) -> usize
+    ensures is { λ r. ⌜ r ≡ at + lengthTo mark (drop at (now (text .entry))) ⌝ }
 {
     let mut end = at;
     while end < text.len() {
-        if text[end] == 32 {
+        if text[end] == mark {
             return end;
         }
         end += 1;
     }
     end
+}
+
+// Where a word ends: at a space or at the text's end.
+pub fn word_end(text: &[u8], at: usize) -> usize
+    ensures is { λ r. ⌜ r ≡ at + wordLength (drop at (now (text .entry))) ⌝ }
+{
+    part_end(text, at, 32)
 }
 
 // ---- the form of a text

@@ -1,13 +1,13 @@
 -- `tokens::bits` meets its contract.
 use borrow.Author.Tests.{eq-eqb, ne-eqb}
+use native.Mathlib.Omega.{arith}
 use lib.ListN.{length}
 use Rattle.tokens.specs.Spelling.{bitsOf}
-use borrow.Author.Needs.{needs}
 use Rattle.tokens.proofs.bits.Statement.{statement}
 use Rattle.tokens.proofs.bits.Tie as tie
 
 spelled-requires : tie.Need-spelled-requires
-spelled-requires c κs = search needs
+spelled-requires c κs = rw (c .if1 .taken) (omega arith)
 
 returns : tie.Need-returns
 unfolding bitsOf

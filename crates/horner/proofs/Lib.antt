@@ -1,0 +1,10 @@
+pub mod Units
+pub mod Shift
+pub mod Runs
+pub mod Checks
+pub mod Spelled
+pub mod Words
+pub mod Return
+pub mod Sizes
+pub mod Rest
+pub mod Answers

@@ -1,0 +1,9 @@
+pub mod Parts
+pub mod Hold
+pub mod Turns
+pub mod Joined
+pub mod Avoids
+pub mod Naturals
+pub mod Ratios
+pub mod Polys
+pub mod Places

@@ -1,0 +1,4 @@
+pub mod Numbers
+pub mod Coefficients
+pub mod Held
+pub mod Promise

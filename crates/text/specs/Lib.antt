@@ -1,0 +1,3 @@
+pub mod Ascii
+pub mod Page
+pub mod Spell
