@@ -1,0 +1,4 @@
+pub mod Parts
+pub mod Sizes
+pub mod Factors
+pub mod Examples

@@ -1,0 +1,72 @@
+-- `reply::show_floats` meets its contract.
+use borrow.Author.Needs.{needs}
+use mathlib.Core.List.{[]}
+use Rattle.text.proofs.Pages.{lays-then}
+use native.Mathlib.Omega.{arith}
+use mathlib.Core.Path.{_≡_}
+use lib.ListN.{length}
+use Rattle.terms.proofs.Lists.{long}
+use Rattle.isolate.specs.Answer.{rootsIn}
+use Rattle.text.specs.Spell.{floatsText}
+use Rattle.reply.proofs.Parts.{shows-one, shows-refused}
+use Rattle.reply.proofs.Sizes.{shown-fits, floats-room}
+use Rattle.reply.proofs.show_floats.Statement.{statement}
+use Rattle.reply.proofs.show_floats.Tie as tie
+
+enum-told : tie.Need-enum-told
+enum-told c = search needs
+
+begin-requires : tie.Need-begin-requires
+begin-requires c κs = tt
+
+write-floats-requires : tie.Need-write-floats-requires
+write-floats-requires c κs = tt
+
+end-requires : tie.Need-end-requires
+end-requires c κs = tt
+
+enum-known-o : tie.Need-enum-known-o
+enum-known-o c = search needs
+
+refuse-requires : tie.Need-refuse-requires
+refuse-requires c κs = tt
+
+same-length : tie.Need-same-length
+same-length c = search needs
+
+returns : tie.Need-returns
+returns c =
+    let s = c .before .before .before .before .before .before .before .before .before .before .before .before .before .before .before .before .args in
+    let x = s .r in
+    let l : length (x .roots) ≡ 64 = search (needs, long) in
+    let e =
+    shows-one (s .op) 0 (x .outcome) (floatsText (rootsIn x)) [] (s .at) (s .out .now) (c .before .before .before .before .before .before .before .before .before .before .before .before .before .enum-told .given .1)
+    (lays-then _ _ _ _ (c .before .before .before .before .before .before .before .before .before .before .before .begin .ensures) (lays-then _ _ _ _ (c .before .before .before .before .before .before .write-floats .ensures) (c .before .before .end .ensures))) in
+    (e .0, (e .1, shown-fits (s .op) (x .outcome) 0 (floatsText (rootsIn x)) [] (omega (arith, floats-room (x .len) (x .roots) l))))
+
+same-length-2 : tie.Need-same-length-2
+same-length-2 c = search needs
+
+returns-2 : tie.Need-returns-2
+returns-2 c =
+    let s = c .before .before .before .before .before .before .before .before .args in
+    let x = s .r in
+    let l : length (x .roots) ≡ 64 = search (needs, long) in
+    let w = c .before .before .before .before .before .o .given in
+    let e = shows-refused (s .op) 0 (x .outcome) (floatsText (rootsIn x)) [] (s .at) (s .out .now) (w .0 .0) (w .1) (c .before .before .refuse .ensures) in
+    (e .0, (e .1, shown-fits (s .op) (x .outcome) 0 (floatsText (rootsIn x)) [] (omega (arith, floats-room (x .len) (x .roots) l))))
+
+pub show-floats-spec : {M : Type 1} → statement M
+show-floats-spec =
+    tie.close
+    (tie.spec
+    enum-told
+    begin-requires
+    write-floats-requires
+    end-requires
+    enum-known-o
+    refuse-requires
+    same-length
+    returns
+    same-length-2
+    returns-2)

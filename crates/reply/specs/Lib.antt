@@ -1,0 +1,3 @@
+pub mod Reply
+pub mod Results
+pub mod Promise

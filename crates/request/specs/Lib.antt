@@ -1,0 +1,4 @@
+pub mod Ops
+pub mod Lines
+pub mod Request
+pub mod Promise
