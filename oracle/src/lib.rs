@@ -2,8 +2,12 @@
 //! everything else here was written for the comparison.
 
 pub mod cases;
+pub mod cases_real;
+pub mod jobs;
 pub mod lower;
 pub mod original;
 pub mod ours;
 pub mod poly;
 pub mod rule;
+pub mod rule_real;
+pub mod tally;

@@ -1,10 +1,13 @@
 //! The original, called on the same lists as ours. A panic of the original is caught and told apart from a refusal.
 
+use crate::lower::LoweredOp;
 use crate::ours::Parts;
 use crate::poly::{self, Poly, PolyError};
 use crate::rule::{Frac, Pieces, constant, flat};
+use crate::rule_real::Token;
 use num_rational::Ratio;
 use std::panic::{AssertUnwindSafe, catch_unwind};
+use std::sync::Arc;
 
 /// What the original made of an input.
 #[derive(Clone, Debug, PartialEq, Eq)]
@@ -39,10 +42,20 @@ fn number(e: &PolyError) -> u64 {
 }
 
 fn caught(f: impl FnOnce() -> Result<(Vec<Frac>, Vec<Frac>), PolyError>) -> Made {
+    match told(f) {
+        Ok((a, b)) => Made::Answer(a, b),
+        Err(PANICKED) => Made::Panicked,
+        Err(n) => Made::Refused(n),
+    }
+}
+
+/// Stands among the refusal numbers for a panic.
+pub const PANICKED: u64 = 99;
+
+fn told<T>(f: impl FnOnce() -> Result<T, PolyError>) -> Result<T, u64> {
     match catch_unwind(AssertUnwindSafe(f)) {
-        Ok(Ok((a, b))) => Made::Answer(a, b),
-        Ok(Err(e)) => Made::Refused(number(&e)),
-        Err(_) => Made::Panicked,
+        Ok(r) => r.map_err(|e| number(&e)),
+        Err(_) => Err(PANICKED),
     }
 }
 
@@ -103,5 +116,84 @@ pub fn step(op: u64, a: Frac, b: Frac) -> Made {
             _ => Ok(Ratio::new(a.0, a.1)),
         };
         r.map(|x| (vec![frac(&x)], vec![]))
+    })
+}
+
+// ---- floats, real roots, expressions
+
+pub fn to_float(f: Frac) -> Result<f64, u64> {
+    told(|| Ok(poly::ratio_to_f64(&ratio(f))))
+}
+
+pub fn to_ratio(v: f64) -> Result<Frac, u64> {
+    told(|| poly::f64_to_ratio(v).map(|r| frac(&r)))
+}
+
+pub fn count(a: &Parts, lo: f64, hi: f64) -> Result<u64, u64> {
+    told(|| poly(a).count_real_roots(lo, hi).map(|n| n as u64))
+}
+
+/// The same two, neither caught nor brought to lowest terms: for the measurement.
+pub fn plain_float(f: Frac) -> f64 {
+    poly::ratio_to_f64(&Ratio::new_raw(f.0, f.1))
+}
+
+pub fn plain_ratio(v: f64) -> bool {
+    poly::f64_to_ratio(v).is_ok()
+}
+
+/// Its recursion has no limit: to be called where ours answers.
+pub fn isolate(a: &Parts, lo: f64, hi: f64, tol: f64) -> Result<Vec<f64>, u64> {
+    told(|| poly(a).isolate_real_roots(lo, hi, tol))
+}
+
+/// The tree that the tokens build; `?` stands for an operator on one value. None where they build none.
+pub fn tree(tokens: &[Token]) -> Option<LoweredOp> {
+    let mut stack: Vec<Arc<LoweredOp>> = vec![];
+    for t in tokens {
+        let new = match t {
+            Token::Const(x) => LoweredOp::Const(*x),
+            Token::Var(i) => LoweredOp::Var(*i as usize),
+            Token::Neg => LoweredOp::Neg(stack.pop()?),
+            Token::Pow(x) => LoweredOp::Pow(stack.pop()?, Arc::new(LoweredOp::Const(*x))),
+            Token::Other => LoweredOp::Exp(stack.pop()?),
+            Token::Add | Token::Sub | Token::Mul => {
+                let (b, a) = (stack.pop()?, stack.pop()?);
+                match t {
+                    Token::Add => LoweredOp::Add(a, b),
+                    Token::Sub => LoweredOp::Sub(a, b),
+                    _ => LoweredOp::Mul(a, b),
+                }
+            }
+        };
+        stack.push(Arc::new(new));
+    }
+    let last = stack.pop()?;
+    if stack.is_empty() { Arc::try_unwrap(last).ok() } else { None }
+}
+
+pub fn lower(tree: &LoweredOp, wrt: u64) -> Result<Vec<Frac>, u64> {
+    told(|| Poly::from_lowered(tree, wrt as usize).map(|p| fracs(&p)))
+}
+
+/// The tree that `to_lowered` makes, as tokens in postfix order.
+pub fn to_lowered(a: &Parts, wrt: u64) -> Result<String, u64> {
+    fn walk(t: &LoweredOp, out: &mut Vec<String>) {
+        let sign = match t {
+            LoweredOp::Const(x) => format!("c{:016x}", x.to_bits()),
+            LoweredOp::Var(i) => format!("v{i}"),
+            LoweredOp::Add(a, b) | LoweredOp::Mul(a, b) => {
+                walk(a, out);
+                walk(b, out);
+                if matches!(t, LoweredOp::Add(..)) { "+".into() } else { "*".into() }
+            }
+            _ => unreachable!("to_lowered makes no other"),
+        };
+        out.push(sign);
+    }
+    told(|| {
+        let mut out = vec![];
+        walk(&poly(a).to_lowered(wrt as usize), &mut out);
+        Ok(out.join(" "))
     })
 }

@@ -1,4 +1,4 @@
-//! Our side, through the static library `calls`: polynomials as lists of numerators and denominators.
+//! Our side, through the static libraries `calls` and `calls_real`: polynomials as lists of numerators and denominators, floats as they are.
 
 /// A polynomial as it is handed over: numerators and denominators, rising.
 #[derive(Clone, Debug, PartialEq, Eq, Default)]
@@ -133,4 +133,135 @@ pub fn step(op: u64, a: (i64, i64), b: (i64, i64)) -> Result<(i64, i64), u64> {
         return Err(status);
     }
     Ok((out[0], out[1]))
+}
+
+// ---- floats, real roots, expressions
+
+#[link(name = "calls_real", kind = "static")]
+unsafe extern "C" {
+    fn kanrosuye_to_float(n: i64, d: i64, out: *mut [f64; 1]) -> u64;
+    fn kanrosuye_to_ratio(v: f64, out: *mut [i64; 2]) -> u64;
+    fn kanrosuye_count(an: *const i64, an_len: usize, ad: *const i64, ad_len: usize, lo: f64, hi: f64) -> u64;
+    fn kanrosuye_isolate(
+        an: *const i64,
+        an_len: usize,
+        ad: *const i64,
+        ad_len: usize,
+        lo: f64,
+        hi: f64,
+        tol: f64,
+        out: *mut [f64; 64],
+    ) -> u64;
+    fn kanrosuye_lower(text: *const u8, len: usize, wrt: u64, nums: *mut [i64; 32], dens: *mut [i64; 32]) -> u64;
+    fn kanrosuye_to_lowered(
+        an: *const i64,
+        an_len: usize,
+        ad: *const i64,
+        ad_len: usize,
+        wrt: u64,
+        out: *mut u8,
+        out_len: usize,
+    ) -> u64;
+}
+
+/// A lent float that nobody writes: no answer has this pattern.
+const UNTOUCHED_FLOAT: u64 = 0x7ffa_5a5a_5a5a_5a5a;
+
+fn untouched() -> f64 {
+    f64::from_bits(UNTOUCHED_FLOAT)
+}
+
+pub fn to_float(f: (i64, i64)) -> Result<f64, u64> {
+    let mut out = [untouched()];
+    let status = unsafe { kanrosuye_to_float(f.0, f.1, &mut out) };
+    if status != 0 {
+        assert!(out[0].to_bits() == UNTOUCHED_FLOAT, "a refusal wrote to lent memory");
+        return Err(status);
+    }
+    Ok(out[0])
+}
+
+pub fn to_ratio(v: f64) -> Result<(i64, i64), u64> {
+    let mut out = [UNTOUCHED; 2];
+    let status = unsafe { kanrosuye_to_ratio(v, &mut out) };
+    if status != 0 {
+        assert!(out == [UNTOUCHED; 2], "a refusal wrote to lent memory");
+        return Err(status);
+    }
+    Ok((out[0], out[1]))
+}
+
+pub fn count(a: &Parts, lo: f64, hi: f64) -> Result<u64, u64> {
+    let number = unsafe { kanrosuye_count(a.nums.as_ptr(), a.nums.len(), a.dens.as_ptr(), a.dens.len(), lo, hi) };
+    if number % 16 == 0 { Ok(number / 16) } else { Err(number % 16) }
+}
+
+/// The number handed back: 16 times how many roots there are, plus the status.
+pub fn raw_isolate(a: &Parts, lo: f64, hi: f64, tol: f64, out: &mut [f64; 64]) -> u64 {
+    unsafe { kanrosuye_isolate(a.nums.as_ptr(), a.nums.len(), a.dens.as_ptr(), a.dens.len(), lo, hi, tol, out) }
+}
+
+pub fn isolate(a: &Parts, lo: f64, hi: f64, tol: f64) -> Result<Vec<f64>, u64> {
+    let mut out = [untouched(); 64];
+    let number = raw_isolate(a, lo, hi, tol, &mut out);
+    let (len, status) = ((number / 16) as usize, number % 16);
+    if status != 0 {
+        assert!(out.iter().all(|x| x.to_bits() == UNTOUCHED_FLOAT), "a refusal wrote to lent memory");
+        return Err(status);
+    }
+    assert!(out[len..].iter().all(|x| x.to_bits() == 0), "unused places hold zeros");
+    Ok(out[..len].to_vec())
+}
+
+/// The number handed back; the coefficients go to lent memory.
+pub fn raw_lower(text: &[u8], wrt: u64, nums: &mut [i64; 32], dens: &mut [i64; 32]) -> u64 {
+    unsafe { kanrosuye_lower(text.as_ptr(), text.len(), wrt, nums, dens) }
+}
+
+pub fn lower(text: &[u8], wrt: u64) -> Result<Vec<(i64, i64)>, u64> {
+    let (mut nums, mut dens) = ([UNTOUCHED; 32], [UNTOUCHED; 32]);
+    let number = raw_lower(text, wrt, &mut nums, &mut dens);
+    if number % 16 != 0 {
+        assert!(nums == [UNTOUCHED; 32] && dens == [UNTOUCHED; 32], "a refusal wrote to lent memory");
+        return Err(number % 16);
+    }
+    assert!(number == 0, "an expression has no steps");
+    let l = terms(&nums, &dens);
+    assert!((l.len()..32).all(|i| (nums[i], dens[i]) == (0, 1)), "unused places hold 0/1");
+    Ok(l)
+}
+
+/// The number handed back: 16 times the text's length, plus the status.
+pub fn raw_to_lowered(a: &Parts, wrt: u64, out: &mut [u8]) -> u64 {
+    unsafe { kanrosuye_to_lowered(a.nums.as_ptr(), a.nums.len(), a.dens.as_ptr(), a.dens.len(), wrt, out.as_mut_ptr(), out.len()) }
+}
+
+/// The text, on a page of so many bytes.
+pub fn to_lowered(a: &Parts, wrt: u64, room: usize) -> Result<String, u64> {
+    let mut out = vec![0x5a; room];
+    let number = raw_to_lowered(a, wrt, &mut out);
+    let (len, status) = ((number / 16) as usize, number % 16);
+    assert!(out[len..].iter().all(|&b| b == 0x5a), "a byte behind the text was written");
+    if status != 0 {
+        assert!(len == 0, "a refusal has no text");
+        return Err(status);
+    }
+    Ok(String::from_utf8(out[..len].to_vec()).expect("tokens are plain"))
+}
+
+// ---- jobs
+
+#[cfg(feature = "job")]
+#[link(name = "job", kind = "static")]
+unsafe extern "C" {
+    fn kanrosuye_job(input: *const u8, input_len: usize, out: *mut u8, out_len: usize) -> u64;
+}
+
+/// The answer's text: what was written over lent zeros.
+#[cfg(feature = "job")]
+pub fn job(text: &[u8]) -> Vec<u8> {
+    let mut out = [0u8; 4096];
+    unsafe { kanrosuye_job(text.as_ptr(), text.len(), out.as_mut_ptr(), out.len()) };
+    let len = out.iter().rposition(|&b| b != 0).map_or(0, |i| i + 1);
+    out[..len].to_vec()
 }

@@ -15,8 +15,8 @@ pub struct Run {
     pub least: bool,
 }
 
-type Num = Result<Frac, u64>;
-type List = Result<Vec<Frac>, u64>;
+pub type Num = Result<Frac, u64>;
+pub type List = Result<Vec<Frac>, u64>;
 
 fn gcd(a: i128, b: i128) -> i128 {
     if b == 0 { a.abs() } else { gcd(b, a % b) }
@@ -31,7 +31,7 @@ fn is_fraction(f: Frac) -> bool {
     f.0 as i128 != LEAST && f.1 as i128 != LEAST && f.1 != 0
 }
 
-fn reduced(n: i128, d: i128) -> Frac {
+pub fn reduced(n: i128, d: i128) -> Frac {
     let g = gcd(n, d) * d.signum();
     ((n / g) as i64, (d / g) as i64)
 }

@@ -137,15 +137,16 @@ module _ (op n : ℕ) (a b : Answer) (d e ga gb gn : Gate) (fd : d ≡ both e gn
 
 -- ---- what is handed back and what is lent
 
-module _ (t m : Division) (e : t ≡ m) where
-  pub told-number : (k : ℕ) → k ≡ numberTold (t .outcome) (t .steps) → k ≡ numberTold (m .outcome) (m .steps)
-  told-number k f = f ∙ ap (λ (d : Division). numberTold (d .outcome) (d .steps)) e
+-- the code's answer t is the model's answer m; out tells how it came out
+module _ {A : Type 0} (out : A → Outcome) (t m : A) (e : t ≡ m) where
+  pub told-number : (steps : A → ℕ) (k : ℕ) → k ≡ numberTold (out t) (steps t) → k ≡ numberTold (out m) (steps m)
+  told-number steps k f = f ∙ ap (λ (a : A). numberTold (out a) (steps a)) e
 
-  pub wrote : (f : Division → List ℤ) (old new : List ℤ) → t .outcome ≡ O.Done → new ≡ f t → new ≡ lentAfter (m .outcome) old (f m)
-  wrote f old new h g = g ∙ ap (λ (o : Outcome). lentAfter o old (f t)) (sym h) ∙ ap (λ (d : Division). lentAfter (d .outcome) old (f d)) e
+  pub wrote : {X : Type 0} (f : A → List X) (old new : List X) → out t ≡ O.Done → new ≡ f t → new ≡ lentAfter (out m) old (f m)
+  wrote f old new h g = g ∙ ap (λ (o : Outcome). lentAfter o old (f t)) (sym h) ∙ ap (λ (a : A). lentAfter (out a) old (f a)) e
 
-  pub kept : (old new : List ℤ) (w : Reason) → t .outcome ≡ O.Refused w → old ≡ lentAfter (m .outcome) old new
-  kept old new w h = ap (λ (o : Outcome). lentAfter o old new) (sym h ∙ ap (λ (d : Division). d .outcome) e)
+  pub kept : {X : Type 0} (old new : List X) (w : Reason) → out t ≡ O.Refused w → old ≡ lentAfter (out m) old new
+  kept old new w h = ap (λ (o : Outcome). lentAfter o old new) (sym h ∙ ap out e)
 
 -- ---- a single step
 

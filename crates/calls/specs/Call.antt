@@ -163,7 +163,7 @@ abbrev pub numberTold : Outcome → ℕ → ℕ
 numberTold o k = k % 72057594037927936 * 16 + outcomeStatus o
 
 -- an answer is written, a refusal leaves what was there
-abbrev pub lentAfter : Outcome → List ℤ → List ℤ → List ℤ
+abbrev pub lentAfter : {X : Type 0} → Outcome → List X → List X → List X
 lentAfter O.Done old new = new
 lentAfter (O.Refused why) old new = old
 

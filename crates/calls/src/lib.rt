@@ -232,8 +232,8 @@ fn two(op: u64, a: Poly, b: Poly, n: usize) -> Division
 }
 
 // How a list of an input came in.
-fn gate(o: Outcome) -> Gate
-    ensures { λ r. ⌜ r ≡ gateOf o ⌝ }
+pub fn gate(o: Outcome) -> Gate
+    ensures is { λ r. ⌜ r ≡ gateOf o ⌝ }
 {
     match o {
         Outcome::Done => Gate::Open,
@@ -279,8 +279,9 @@ fn called(op: u64, an: &[i64], ad: &[i64], bn: &[i64], bd: &[i64], n: usize) -> 
     }
 }
 
-fn nums(p: Poly) -> [i64; 32]
-    ensures { λ r. ⌜ r ≡ numsOf p ⌝ }
+// The 32 numerators of a polynomial.
+pub fn nums(p: Poly) -> [i64; 32]
+    ensures is { λ r. ⌜ r ≡ numsOf p ⌝ }
 {
     let mut out = [0i64; 32];
     let mut i: usize = 0;
@@ -293,8 +294,8 @@ fn nums(p: Poly) -> [i64; 32]
     out
 }
 
-fn dens(p: Poly) -> [i64; 32]
-    ensures { λ r. ⌜ r ≡ densOf p ⌝ }
+pub fn dens(p: Poly) -> [i64; 32]
+    ensures is { λ r. ⌜ r ≡ densOf p ⌝ }
 {
     let mut out = [0i64; 32];
     let mut i: usize = 0;
@@ -308,8 +309,8 @@ fn dens(p: Poly) -> [i64; 32]
 }
 
 // What is handed back: 16 times the steps, plus the status.
-fn number(o: Outcome, steps: u64) -> u64
-    ensures { λ r. ⌜ r ≡ numberTold o steps ⌝ }
+pub fn number(o: Outcome, steps: u64) -> u64
+    ensures is { λ r. ⌜ r ≡ numberTold o steps ⌝ }
 {
     let up = steps % 72057594037927936 * 16;
     match o {

@@ -1,4 +1,4 @@
--- Document 01's figures marked P, as one table about the definitions. proofs/Proved.antt proves it.
+-- Document 01's figures marked P and that of an isolation that goes too deep, as one table about the definitions. proofs/Proved.antt proves it.
 use mathlib.Core.Path.{_≡_}
 use mathlib.Core.List.{[], _∷_}
 use Prim.Native.Nat.{ℕ}
@@ -26,6 +26,11 @@ use Rattle.yun.specs.Answer.{noPiece}
 use Rattle.yun.specs.Round.{piece}
 use Rattle.factor.specs.declared.Factorization.{Factorization}
 use Rattle.factor.specs.Factors.{factorFor}
+use lib.Ieee.{Float, binary64, ofBits, neg}
+use Rattle.ratio.specs.declared.Reason.the-variants.{TooDeep}
+use Rattle.sturm.specs.Count.{farthest}
+use Rattle.isolate.specs.Answer.{refusedFor}
+use Rattle.isolate.specs.Isolate.{isolateFor}
 
 abbrev pub ratio : ℤ → ℤ → Ratio
 ratio n d = record { num = n; den = d }
@@ -61,6 +66,10 @@ roots l tried steps = answered (fine (record { tried = tried; steps = steps }) l
 abbrev pub onceWith : Ratio → List Ratio → Factorization
 onceWith c l = record { outcome = O.Done; content = c; pieces = (piece l 1 ∷ []) ++ replicate 31 noPiece; len = 1 }
 
+-- the float nearest to 1e-6
+abbrev pub millionth : Float
+millionth = ofBits binary64 0x3eb0_c6f7_a0b5_ed8d
+
 pub record Figures : Type 0 where
   -- the gcd of x^2 - 1 and x^2 - 3x + 2 is x - 1 and takes 7 + 10 + 2 = 19 steps, quote 24
   pub gcd-steps : gcdFor (square (negsuc 0) (pos 0) (pos 1)) (square (pos 2) (negsuc 2) (pos 1)) ≡ doneWith (linear (negsuc 0) (pos 1)) 19
@@ -83,3 +92,5 @@ pub record Figures : Type 0 where
   pub roots-with-zero : rationalRootsOf (cubic (pos 0) (negsuc 0) (pos 0) (pos 1)) 65536 ≡ roots (wholeR (negsuc 0) ∷ wholeR (pos 0) ∷ wholeR (pos 1) ∷ []) 4 36
   -- the factors of 2x + 1: content 1, one factor x + 1/2
   pub factor-linear : factorFor (linear (pos 1) (pos 2)) 65536 ≡ onceWith one (ratio (pos 1) (pos 2) ∷ one ∷ [])
+  -- (x - 1)(x - 2) on ±1e15, tolerance 1e-6, gives 7
+  pub isolate-deep : isolateFor (square (pos 2) (negsuc 2) (pos 1)) (neg farthest) farthest millionth ≡ refusedFor TooDeep

@@ -91,6 +91,22 @@ fn root(at: i64) {
     io::write_all(STDOUT_FILENO, b"\n");
 }
 
+// The real roots of (x - 1)(x - 2) on both sides of zero, as far as an end, with a tolerance of 1e-6.
+fn isolation(name: &[u8], end: f64) {
+    let nums: [i64; 3] = [2, -3, 1];
+    let dens: [i64; 3] = [1, 1, 1];
+    let p = poly::from_parts(&nums, &dens);
+    let r = isolate::isolate_real_roots(p.poly, -end, end, 1e-6);
+    let outcome = r.outcome;
+    io::write_all(STDOUT_FILENO, b"isolation of (x - 1)(x - 2) on +-");
+    io::write_all(STDOUT_FILENO, name);
+    io::write_all(STDOUT_FILENO, b", tolerance 1e-6: status ");
+    io::print_decimal(STDOUT_FILENO, status(outcome));
+    io::write_all(STDOUT_FILENO, b", roots ");
+    io::print_decimal(STDOUT_FILENO, r.len as u64);
+    io::write_all(STDOUT_FILENO, b"\n");
+}
+
 fn main() {
     listing(8, 2);
     listing(9, 2);
@@ -101,4 +117,6 @@ fn main() {
     value_of_x(3037000500);
     root(-3037000499);
     root(-3037000500);
+    isolation(b"1e15", 1e15);
+    isolation(b"1e14", 1e14);
 }

@@ -1,7 +1,12 @@
-// Stored answers of the original, replayed: each line of standard input is a call of `calls` and what must come of it.
+// Stored answers of the original, replayed: each line of standard input is a call of `calls` or `calls_real` and what must come of it.
 // `oracle/answers` writes the lines, from the seed that stands there. A line has, parted by one space each: the operation, n,
 // the four lists of a and b, the status, the steps, the four lists of the answer. A list is its length, then its entries.
+// From operation 32 on real.rt says what a line has.
 use libc::STDOUT_FILENO;
+
+mod real;
+
+ghost use mathlib.Core.Path.{_≡_};
 ghost use Prim.Native.Nat.{_≤_};
 ghost use lib.ListN.{length};
 
@@ -33,12 +38,12 @@ struct Replayed {
 }
 
 // The digits from a place on; the place behind the one byte that parts them from the next.
-fn natural(data: &[u8; 65536], from: usize) -> Size
-    ensures { λ r. ⌜ r .at ≤ 65536 ⌝ }
+fn natural(data: &[u8; 131072], from: usize) -> Size
+    ensures { λ r. ⌜ r .at ≤ 131072 ⌝ }
 {
     let mut value: u64 = 0;
     let mut at = from;
-    while at < 65536 {
+    while at < 131072 {
         let b = data[at];
         if b < 48 {
             return Size { value, at: at + 1 };
@@ -49,7 +54,7 @@ fn natural(data: &[u8; 65536], from: usize) -> Size
         value = value % 1000000000000000000 * 10 + ((b - 48) as u64);
         at += 1;
     }
-    Size { value, at: 65536 }
+    Size { value, at: 131072 }
 }
 
 // A size with a sign in front; 2^63 only with a minus.
@@ -62,13 +67,13 @@ fn with_sign(minus: bool, size: u64) -> i64 {
     }
 }
 
-fn whole(data: &[u8; 65536], from: usize) -> Signed
-    ensures { λ r. ⌜ r .at ≤ 65536 ⌝ }
+fn whole(data: &[u8; 131072], from: usize) -> Signed
+    ensures { λ r. ⌜ r .at ≤ 131072 ⌝ }
 {
-    if from >= 65535 {
+    if from >= 131071 {
         return Signed {
             value: 0,
-            at: 65536,
+            at: 131072,
         };
     }
     if data[from] == b'-' {
@@ -86,7 +91,7 @@ fn whole(data: &[u8; 65536], from: usize) -> Signed
     }
 }
 
-fn entries(data: &[u8; 65536], from: usize) -> Items
+fn entries(data: &[u8; 131072], from: usize) -> Items
     ensures { λ r. ⌜ r .len ≤ length (r .items) ⌝ }
 {
     let n = natural(data, from);
@@ -129,7 +134,7 @@ fn holds(out: &[i64; 32], want: Items, pad: i64) -> bool {
 
 // What must come of a call. A refusal leaves the 7s that were lent.
 fn as_stored(
-    data: &[u8; 65536],
+    data: &[u8; 131072],
     from: usize,
     number: u64,
     qn: &[i64; 32],
@@ -165,7 +170,7 @@ fn as_stored(
     Replayed { same, at: wrd.at }
 }
 
-fn replay(data: &[u8; 65536], from: usize) -> Replayed {
+fn replay(data: &[u8; 131072], from: usize) -> Replayed {
     let op = natural(data, from);
     let n = natural(data, op.at);
     let an = entries(data, n.at);
@@ -199,6 +204,16 @@ fn replay(data: &[u8; 65536], from: usize) -> Replayed {
     as_stored(data, bd.at, number, &qn, &qd, &rn, &rd)
 }
 
+// A line of either library.
+fn line(data: &[u8; 131072], from: usize) -> Replayed {
+    let op = natural(data, from);
+    if op.value >= 32 {
+        real::line(op.value, data, op.at)
+    } else {
+        replay(data, from)
+    }
+}
+
 fn one_unless(same: bool) -> u64
     ensures { λ r. ⌜ r ≤ 1 ⌝ }
 {
@@ -206,7 +221,7 @@ fn one_unless(same: bool) -> u64
 }
 
 // Every line, at most 1,000 of them.
-fn all(data: &[u8; 65536], len: usize) -> Tally {
+fn all(data: &[u8; 131072], len: usize) -> Tally {
     let mut at: usize = 0;
     let mut differ: u64 = 0;
     let mut count: u64 = 0;
@@ -214,7 +229,7 @@ fn all(data: &[u8; 65536], len: usize) -> Tally {
         if at >= len {
             return Tally { count, differ };
         }
-        let r = replay(data, at);
+        let r = line(data, at);
         at = r.at;
         differ += one_unless(r.same);
         count += 1;
@@ -222,8 +237,15 @@ fn all(data: &[u8; 65536], len: usize) -> Tally {
     Tally { count, differ }
 }
 
+// Room for every line.
+fn room() -> [u8; 131072]
+    ensures { λ r. ⌜ 131072 ≡ length r ⌝ }
+{
+    [0; 131072]
+}
+
 fn main() {
-    let mut data = io::large_buffer();
+    let mut data = room();
     let len = io::read_full(0, &mut data);
     let t = all(&data, len);
     io::write_all(STDOUT_FILENO, b"replayed ");

@@ -40,6 +40,9 @@ number-requires-2 c κs = search needs
 abbrev model : tie.Start → Division
 model s = calledOf (s .args .op) (now (s .args .an)) (now (s .args .ad)) (now (s .args .bn)) (now (s .args .bd)) (s .args .n)
 
+abbrev out : Division → Outcome
+out d = d .outcome
+
 returns : tie.Need-returns
 returns c =
     let told = c .before .before .before .before .before in
@@ -48,14 +51,14 @@ returns c =
     let t = m .called .result in
     let e = m .called .ensures in
     let h = told .enum-told .given .1 in (
-      told-number t (model s) e (c .number .result) (c .number .ensures),
+      told-number out t (model s) e (λ (d : Division). d .steps) (c .number .result) (c .number .ensures),
       (
-        wrote t (model s) e (λ (d : Division). numsOf (d .quotient)) (now (s .args .qn)) (c .before .before .before .before .nums .result) h (c .before .before .before .before .nums .ensures),
+        wrote out t (model s) e (λ (d : Division). numsOf (d .quotient)) (now (s .args .qn)) (c .before .before .before .before .nums .result) h (c .before .before .before .before .nums .ensures),
         (
-          wrote t (model s) e (λ (d : Division). densOf (d .quotient)) (now (s .args .qd)) (c .before .before .before .dens .result) h (c .before .before .before .dens .ensures),
+          wrote out t (model s) e (λ (d : Division). densOf (d .quotient)) (now (s .args .qd)) (c .before .before .before .dens .result) h (c .before .before .before .dens .ensures),
           (
-            wrote t (model s) e (λ (d : Division). numsOf (d .rest)) (now (s .args .rn)) (c .before .before .nums2 .result) h (c .before .before .nums2 .ensures),
-            wrote t (model s) e (λ (d : Division). densOf (d .rest)) (now (s .args .rd)) (c .before .dens2 .result) h (c .before .dens2 .ensures),
+            wrote out t (model s) e (λ (d : Division). numsOf (d .rest)) (now (s .args .rn)) (c .before .before .nums2 .result) h (c .before .before .nums2 .ensures),
+            wrote out t (model s) e (λ (d : Division). densOf (d .rest)) (now (s .args .rd)) (c .before .dens2 .result) h (c .before .dens2 .ensures),
           ),
         ),
       ),
@@ -69,14 +72,14 @@ returns-2 c =
     let e = m .called .ensures in
     let w = c .before .before .o .given .0 .0 in
     let h = c .before .before .o .given .1 in (
-      told-number t (model s) e (c .number2 .result) (c .number2 .ensures ∙ ap (λ (o : Outcome). numberTold o (t .steps)) (sym h)),
+      told-number out t (model s) e (λ (d : Division). d .steps) (c .number2 .result) (c .number2 .ensures ∙ ap (λ (o : Outcome). numberTold o (t .steps)) (sym h)),
       (
-        kept t (model s) e (now (s .args .qn)) (numsOf (model s .quotient)) w h,
+        kept out t (model s) e (now (s .args .qn)) (numsOf (model s .quotient)) w h,
         (
-          kept t (model s) e (now (s .args .qd)) (densOf (model s .quotient)) w h,
+          kept out t (model s) e (now (s .args .qd)) (densOf (model s .quotient)) w h,
           (
-            kept t (model s) e (now (s .args .rn)) (numsOf (model s .rest)) w h,
-            kept t (model s) e (now (s .args .rd)) (densOf (model s .rest)) w h,
+            kept out t (model s) e (now (s .args .rn)) (numsOf (model s .rest)) w h,
+            kept out t (model s) e (now (s .args .rd)) (densOf (model s .rest)) w h,
           ),
         ),
       ),

@@ -16,8 +16,8 @@ loop-holds c = (omega arith, omega arith)
 returns : tie.Need-returns Inv-loop μ-loop
 returns c = tt
 
-replay-requires : tie.Need-replay-requires Inv-loop μ-loop
-replay-requires c κs = tt
+line-requires : tie.Need-line-requires Inv-loop μ-loop
+line-requires c κs = tt
 
 one-unless-requires : tie.Need-one-unless-requires Inv-loop μ-loop
 one-unless-requires c κs = tt
@@ -45,7 +45,7 @@ all-spec =
     μ-loop
     loop-holds
     returns
-    replay-requires
+    line-requires
     one-unless-requires
     add-differ
     add-count

@@ -8,7 +8,7 @@ abbrev Inv-loop : tie.InvT-loop
 Inv-loop «data» from value₀ at₀ value at = Unit {0}
 
 abbrev μ-loop : tie.MeasureT-loop
-μ-loop «data» from value₀ at₀ value at = 65536 - at
+μ-loop «data» from value₀ at₀ value at = 131072 - at
 
 loop-holds : tie.Need-loop-holds Inv-loop μ-loop
 loop-holds c = omega arith

@@ -6,22 +6,22 @@ use Rattle.replay.proofs.replay.Statement.{statement}
 use Rattle.replay.proofs.replay.Tie as tie
 
 natural-requires : tie.Need-natural-requires
-natural-requires c κs = search needs
+natural-requires c κs = tt
 
 natural-requires-2 : tie.Need-natural-requires-2
-natural-requires-2 c κs = search needs
+natural-requires-2 c κs = tt
 
 entries-requires : tie.Need-entries-requires
-entries-requires c κs = search needs
+entries-requires c κs = tt
 
 entries-requires-2 : tie.Need-entries-requires-2
-entries-requires-2 c κs = search needs
+entries-requires-2 c κs = tt
 
 entries-requires-3 : tie.Need-entries-requires-3
-entries-requires-3 c κs = search needs
+entries-requires-3 c κs = tt
 
 entries-requires-4 : tie.Need-entries-requires-4
-entries-requires-4 c κs = search needs
+entries-requires-4 c κs = tt
 
 array-share-prefix-xn : tie.Need-array-share-prefix-xn
 array-share-prefix-xn c = search needs
@@ -48,10 +48,10 @@ slice-aggregate-kanrosuye-call-4 : tie.Need-slice-aggregate-kanrosuye-call-4
 slice-aggregate-kanrosuye-call-4 c = sym (length-take-le _ _ (c .before .before .before .before .before .before .before .before .entries4 .ensures))
 
 kanrosuye-call-requires : tie.Need-kanrosuye-call-requires
-kanrosuye-call-requires c κs = search needs
+kanrosuye-call-requires c κs = tt
 
 as-stored-requires : tie.Need-as-stored-requires
-as-stored-requires c κs = search needs
+as-stored-requires c κs = tt
 
 returns : tie.Need-returns
 returns c = search needs

@@ -4,6 +4,9 @@ use oracle::cases::{self, Random};
 use oracle::original::{self, Made};
 use oracle::ours::{self, Parts, Told};
 use oracle::rule::{self, Frac, Run};
+use oracle::tally::Count;
+
+mod real;
 
 struct Op {
     number: u64,
@@ -34,31 +37,7 @@ const OPS: [Op; 18] = [
     Op { number: 18, name: "primitive", counted: false, most: 12 },
 ];
 
-const NOT_COMPARED: &str =
-    "the float bridge, the count and the isolation of real roots, expressions (landed, not in the library `calls` yet); job texts, the program (not landed)";
-
-/// What was found of one operation.
-#[derive(Default)]
-struct Count {
-    tried: u64,
-    status: [u64; 9],
-    inside: u64,
-    from_original: u64,
-    from_rule: u64,
-    least: u64,
-    panicked: u64,
-}
-
-impl Count {
-    fn line(&self, name: &str) {
-        let status: Vec<String> =
-            (0..9).filter(|&i| self.status[i] > 0).map(|i| format!("{i}:{}", self.status[i])).collect();
-        println!(
-            "{name:<13} tried {:>8}, inside the domain {:>8}, differ from the original {}, from document 01 {}; -2^63 met {}, original panicked {}; status {}",
-            self.tried, self.inside, self.from_original, self.from_rule, self.least, self.panicked, status.join(" ")
-        );
-    }
-}
+const NOT_COMPARED: &str = "job texts and the program, which `oracle/jobs` compares";
 
 fn same_as_made(t: &Told, m: &Made) -> bool {
     match m {
@@ -139,7 +118,7 @@ fn polynomials(seed: u64, random: u64, shown: &mut u64) -> u64 {
             one_case(op, &a, &b, n, &mut c, shown);
         }
         c.line(op.name);
-        differ += c.from_original + c.from_rule;
+        differ += c.differ();
     }
     differ
 }
@@ -198,7 +177,7 @@ fn single_steps(shown: &mut u64) -> u64 {
             }
         }
         c.line(name);
-        differ += c.from_original + c.from_rule;
+        differ += c.differ();
     }
     differ
 }
@@ -210,8 +189,8 @@ fn main() {
     std::panic::set_hook(Box::new(|_| {}));
     println!("seed {seed}, {random} random inputs an operation, {} short polynomials exhaustively", cases::short(3).len());
     let mut shown = 0;
-    let differ = single_steps(&mut shown) + polynomials(seed, random, &mut shown);
-    println!("not compared: {NOT_COMPARED}");
+    let differ = single_steps(&mut shown) + polynomials(seed, random, &mut shown) + real::all(seed, random, &mut shown);
+    println!("not compared here: {NOT_COMPARED}");
     println!("{differ} differ");
     std::process::exit((differ > 0) as i32);
 }
