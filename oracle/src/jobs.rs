@@ -160,60 +160,86 @@ fn factors(flat: &[Frac]) -> String {
     out
 }
 
-/// What is printed behind `out=` and `rest=`, or the refusal; and the steps.
+/// What is printed behind `out=` and `rest=`, or the refusal; the steps; and whether -2^63 was met on the way.
+type Told = (Shown, u64, bool);
+type Shown = Result<(String, String), u64>;
+
+fn one(s: String) -> (String, String) {
+    (s, String::new())
+}
+
+fn shown(name: &str, x: &[Frac], y: &[Frac]) -> (String, String) {
+    match name {
+        "divide" => (poly(x), poly(y)),
+        "roots" => one(numbers(x)),
+        "factor" => one(factors(x)),
+        _ => one(poly(x)),
+    }
+}
+
+fn second<'a>(op: &Op, job: &'a Job) -> &'a Parts {
+    if op.name == "eval" { &job.x } else { &job.b }
+}
+
 fn work(op: &Op, job: &Job) -> Told {
     if job.long {
-        return (Err(4), 0);
+        return (Err(4), 0, false);
     }
-    let one = |s: String| (s, String::new());
+    let mut run = Run::default();
     match op.name {
-        "count" => (rule_real::count(&mut Run::default(), &job.a, job.lo, job.hi).map(|n| one(n.to_string())), 0),
-        "isolate" => (rule_real::isolate(&mut Run::default(), &job.a, job.lo, job.hi, job.tol).map(|l| one(floats(l))), 0),
+        "count" => (rule_real::count(&mut run, &job.a, job.lo, job.hi).map(|n| one(n.to_string())), 0, run.least),
+        "isolate" => (rule_real::isolate(&mut run, &job.a, job.lo, job.hi, job.tol).map(|l| one(floats(l))), 0, run.least),
         name => {
-            let second = if name == "eval" { &job.x } else { &job.b };
-            let (answer, run) = rule::answer(op.number, &job.a, second, job.budget);
-            let told = answer.map(|(x, y)| match name {
-                "divide" => (poly(&x), poly(&y)),
-                "roots" => one(numbers(&x)),
-                "factor" => one(factors(&x)),
-                _ => one(poly(&x)),
-            });
-            (told, run.steps)
+            let (answer, run) = rule::answer(op.number, &job.a, second(op, job), job.budget);
+            (answer.map(|(x, y)| shown(name, &x, &y)), run.steps, run.least)
         }
     }
 }
 
-/// The answer to a job, as document 01 has it.
-pub fn answer(text: &[u8]) -> String {
-    answer_by(text, work)
+fn work_of_original(op: &Op, job: &Job) -> Shown {
+    match op.name {
+        "count" => original::count(&job.a, job.lo, job.hi).map(|n| one(n.to_string())),
+        "isolate" => original::isolate(&job.a, job.lo, job.hi, job.tol).map(|l| one(floats(l))),
+        name => match original::call(op.number, &job.a, second(op, job), job.budget) {
+            Made::Answer(x, y) => Ok(shown(name, &x, &y)),
+            Made::Refused(s) => Err(s),
+            Made::Panicked => Err(original::PANICKED),
+        },
+    }
 }
 
-/// The original behind the same reading and writing; it counts no steps. For the measurement, on jobs that it can answer.
-pub fn answer_of_original(text: &[u8]) -> String {
-    answer_by(text, |op, job| {
-        let told = match op.name {
-            "count" => original::count(&job.a, job.lo, job.hi).map(|n| n.to_string()),
-            "isolate" => original::isolate(&job.a, job.lo, job.hi, job.tol).map(floats),
-            _ => match original::call(op.number, &job.a, if op.name == "eval" { &job.x } else { &job.b }, job.budget) {
-                Made::Answer(x, _) => Ok(poly(&x)),
-                Made::Refused(s) => Err(s),
-                Made::Panicked => Err(original::PANICKED),
-            },
-        };
-        (told.map(|s| (s, String::new())), 0)
-    })
-}
-
-type Told = (Result<(String, String), u64>, u64);
-
-fn answer_by(text: &[u8], work: fn(&Op, &Job) -> Told) -> String {
-    let Some(op) = named(text) else { return "op=?\nstatus=5\nout=\nrest=\nsteps=\n".into() };
-    let (told, steps) = read(op, text).map_or((Err(5), 0), |job| work(op, &job));
+fn written(op: &Op, told: Shown, steps: u64) -> String {
     let counted = matches!(op.name, "divide" | "gcd" | "resultant" | "discriminant");
     let steps = if counted { steps.to_string() } else { String::new() };
     let status = told.as_ref().err().copied().unwrap_or(0);
     let (out, rest) = told.unwrap_or_default();
     format!("op={}\nstatus={status}\nout={out}\nrest={rest}\nsteps={steps}\n", op.name)
+}
+
+/// The answer to a job, as document 01 has it.
+pub fn answer(text: &[u8]) -> String {
+    let Some(op) = named(text) else { return "op=?\nstatus=5\nout=\nrest=\nsteps=\n".into() };
+    let (told, steps, _) = read(op, text).map_or((Err(5), 0, false), |job| work(op, &job));
+    written(op, told, steps)
+}
+
+/// The original behind the same reading and writing, inside the domain of equality; it counts no steps, so that these are document 01's.
+pub fn answer_in_domain(text: &[u8]) -> Option<String> {
+    let op = named(text)?;
+    let job = read(op, text)?;
+    let (told, steps, least) = work(op, &job);
+    if least || matches!(told, Err(4..=8)) {
+        return None;
+    }
+    Some(written(op, work_of_original(op, &job), steps))
+}
+
+/// The original alone, for the measurement, on jobs that it can answer.
+pub fn answer_of_original(text: &[u8]) -> String {
+    match named(text).and_then(|op| read(op, text).map(|job| (op, job))) {
+        Some((op, job)) => written(op, work_of_original(op, &job), 0),
+        None => answer(text),
+    }
 }
 
 /// The status that an answer prints, and the operation.

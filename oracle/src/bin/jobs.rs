@@ -1,7 +1,7 @@
 //! Job texts: ours against document 01, `jobs [SEED [RANDOM TEXTS]]`. Through the static library, and a sample of them through the program.
 
 use oracle::cases::Random;
-use oracle::jobs::{self, answer, damaged, small, status, valid};
+use oracle::jobs::{self, answer, answer_in_domain, damaged, small, status, valid};
 use std::collections::BTreeMap;
 use std::io::Write;
 use std::process::{Command, Stdio};
@@ -14,6 +14,8 @@ const SAMPLE: usize = 400;
 struct Count {
     tried: u64,
     status: [u64; 10],
+    inside: u64,
+    original: u64,
     library: u64,
     program: u64,
     programs: u64,
@@ -65,6 +67,10 @@ fn main() {
             }
             1
         };
+        if let Some(got) = answer_in_domain(text) {
+            c.inside += 1;
+            c.original += same(got.as_bytes(), "the original");
+        }
         if let Some(got) = library(text) {
             c.library += same(&got, "the library");
         }
@@ -76,7 +82,7 @@ fn main() {
     for o in jobs::OPS.iter().map(|o| o.name).chain(["?"]) {
         let Some(c) = counts.get(o) else { continue };
         let status: Vec<String> = (0..10).filter(|&i| c.status[i] > 0).map(|i| format!("{i}:{}", c.status[i])).collect();
-        println!("{o:<13} tried {:>7}, differ from document 01: library {}, program {} of {}; status {}", c.tried, c.library, c.program, c.programs, status.join(" "));
+        println!("{o:<13} tried {:>7}, differ from document 01: library {}, program {} of {}, the original {} of {} inside the domain; status {}", c.tried, c.library, c.program, c.programs, c.original, c.inside, status.join(" "));
     }
     if library(b"").is_none() {
         println!("not compared: the static library `job` (not landed)");
@@ -84,7 +90,7 @@ fn main() {
     if !has_program {
         println!("not compared: the program polyjob (not landed)");
     }
-    let differ: u64 = counts.values().map(|c| c.library + c.program).sum();
+    let differ: u64 = counts.values().map(|c| c.library + c.program + c.original).sum();
     println!("{differ} differ");
     std::process::exit((differ > 0) as i32);
 }
