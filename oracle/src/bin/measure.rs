@@ -53,9 +53,10 @@ fn cases() -> Vec<Case> {
         one("roots of degree 4, 144 candidates", 9, &[36, 0, -25, 0, 4], &[]),
         one("roots, 55,108 trial divisions, answered", 9, &[-3037000493, 1], &[]),
         one("roots, 65,535 trial divisions, refused", 9, &[-4294967291, 0, 1], &[]),
-        // (x - 1)^3 (x + 2)^2; (x - 1)(x - 2)(x - 3)(2x + 1); (x^2 + x + 1)(x^2 + 2)
+        // (x - 1)^3 (x + 2)^2; (x - 1)(x + 1)(x - 2)(x - 3); (x - 1)(x - 2)(x - 3)(2x + 1); (x^2 + x + 1)(x^2 + 2)
         one("factors by Yun, degree 5", 10, &[-4, 8, -1, -5, 1, 1], &[]),
-        one("factors by roots, degree 4", 10, &[-6, -1, 16, -11, 2], &[]),
+        one("factors by roots, degree 4", 10, &[-6, 5, 5, -5, 1], &[]),
+        one("factors refused by Yun, degree 4", 10, &[-6, -1, 16, -11, 2], &[]),
         one("factors by Kronecker, degree 4", 10, &[2, 2, 3, 1, 1], &[]),
         one("eval of degree 8 at a whole number", 12, &[-6, 11, -6, 1, 5, 3, 2, 7, 1], &[3]),
         halves("eval of degree 8 at a fraction", 12, &[-6, 11, -6, 1, 5, 3, 2, 7, 1], &[2]),
