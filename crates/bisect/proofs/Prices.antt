@@ -1,8 +1,9 @@
--- The calls of the bisection are bounded: a call that counts a root finds a bracket or refuses, and each bracket pays for the calls on the way to it.
+-- The calls of the bisection are bounded: a call that counts a root finds a bracket or refuses, and each bracket pays for the calls on the way to it. The values that are worked out are so many for each call.
 use mathlib.Core.Path.{_≡_, refl, sym, ap, ap₂, subst, _∙_}
 use mathlib.Core.Bool.{Bool, true, false}
 use mathlib.Core.List.{List, [], _∷_, _++_}
 use Prim.Native.Nat.{ℕ, zero, suc, _+_, _-_, _*_, _≤_, _<_}
+use native.Mathlib.Nat.{mul-le-mul-left, mul-le-mul-right}
 use native.Mathlib.Omega.{arith}
 use lib.Dec.{ltb}
 use lib.Ieee.{Float, binary64, sub, lt, le}
@@ -15,15 +16,15 @@ use Rattle.bisect.specs.declared.Bracket.{Bracket}
 use Rattle.bisect.specs.declared.Cut.{Cut}
 use Rattle.bisect.specs.Bracket.{Found, pushIf, pushed, marked}
 use Rattle.bisect.specs.Cut.{countIn, rootAt, middle, hitsOf, nearby, cutIf, cutOf}
-use Rattle.bisect.specs.Bisect.{decided, partly, splitBy, innerOf, start, end}
-use Rattle.bisect.specs.Price.{after, ifThere, ifSplit, below, callsOf, unlessNone, callsFor, mostCalls, PricePromise}
+use Rattle.bisect.specs.Bisect.{decided, partly, splitBy, innerOf, start, end, unlessEmpty, bisectOf}
+use Rattle.bisect.specs.Price.{after, ifThere, ifSplit, below, workOf, unlessNone, workFor, callsFor, looks, evaluationsFor, mostCalls, PricePromise}
 
 -- a refusal weighs one bracket more than there may be
 abbrev weight : Found → ℕ
 weight (got l) = length l
 weight (none why) = 65
 
-abbrev Fits : Found → Type 0
+abbrev pub Fits : Found → Type 0
 Fits (got l) = length l ≤ 64
 Fits (none why) = Unit
 
@@ -151,31 +152,37 @@ if-none (suc zero) w = refl
 if-none (suc (suc n)) true = refl
 if-none (suc (suc n)) false = refl
 
-module _ (k : ℕ) (c : List (List Ratio)) (tol : Float) (all : (a b : Float) (l : List Bracket) → length l ≤ 64 → Priced k (countIn c a b) (length l) (innerOf k c a b tol l) (callsOf k c a b tol l)) where
+if-one : (n : ℕ) (w : Bool) (m : ℕ) → suc (ifSplit n w m) ≡ 1 + ifSplit n w (0 + m)
+if-one zero w m = omega arith
+if-one (suc zero) w m = omega arith
+if-one (suc (suc n)) true m = omega arith
+if-one (suc (suc n)) false m = omega arith
+
+module _ (k : ℕ) (c : List (List Ratio)) (tol : Float) (all : (a b : Float) (l : List Bracket) → length l ≤ 64 → Priced k (countIn c a b) (length l) (innerOf k c a b tol l) (workOf 1 0 k c a b tol l)) where
   by-cut : (t : Bool) (a b m eps : Float) (l : List Bracket) → length l ≤ 64 → 2 ≤ countIn c a b
       → let s = cutIf t a b m eps in
-      Busy (suc k) (length l) (weight (splitBy s (λ l. innerOf k c a (s .lo) tol l) (λ l. innerOf k c (s .hi) b tol l) l)) (suc (below s (λ l. innerOf k c a (s .lo) tol l) (λ l. callsOf k c a (s .lo) tol l) (λ l. callsOf k c (s .hi) b tol l) l))
+      Busy (suc k) (length l) (weight (splitBy s (λ l. innerOf k c a (s .lo) tol l) (λ l. innerOf k c (s .hi) b tol l) l)) (suc (below s (λ l. innerOf k c a (s .lo) tol l) (λ l. workOf 1 0 k c a (s .lo) tol l) (λ l. workOf 1 0 k c (s .hi) b tol l) l))
       × Fits (splitBy s (λ l. innerOf k c a (s .lo) tol l) (λ l. innerOf k c (s .hi) b tol l) l)
   by-cut true a b m eps l h two =
       let s = cutIf true a b m eps in
       let u = push-weight m m l h in
-      exact-paid k (countIn c a (s .lo)) (countIn c (s .hi) b) (λ l. innerOf k c a (s .lo) tol l) (λ l. innerOf k c (s .hi) b tol l) (λ l. callsOf k c a (s .lo) tol l) (λ l. callsOf k c (s .hi) b tol l)
+      exact-paid k (countIn c a (s .lo)) (countIn c (s .hi) b) (λ l. innerOf k c a (s .lo) tol l) (λ l. innerOf k c (s .hi) b tol l) (λ l. workOf 1 0 k c a (s .lo) tol l) (λ l. workOf 1 0 k c (s .hi) b tol l)
       (all a (s .lo)) (all (s .hi) b) (s .left) (s .right) (length l) (pushed m m l) (u .0) (u .1)
   by-cut false a b m eps l h two =
-      halves-got k (countIn c a m) (countIn c m b) (λ l. innerOf k c a m tol l) (λ l. innerOf k c m b tol l) (λ l. callsOf k c a m tol l) (λ l. callsOf k c m b tol l)
+      halves-got k (countIn c a m) (countIn c m b) (λ l. innerOf k c a m tol l) (λ l. innerOf k c m b tol l) (λ l. workOf 1 0 k c a m tol l) (λ l. workOf 1 0 k c m b tol l)
       (all a m) (all m b) l (innerOf k c a m tol l) h (all a m l h) (omega (arith, two))
 
-priced : (k : ℕ) (c : List (List Ratio)) (tol a b : Float) (l : List Bracket) → length l ≤ 64 → Priced k (countIn c a b) (length l) (innerOf k c a b tol l) (callsOf k c a b tol l)
-unfolding innerOf callsOf cutOf
+priced : (k : ℕ) (c : List (List Ratio)) (tol a b : Float) (l : List Bracket) → length l ≤ 64 → Priced k (countIn c a b) (length l) (innerOf k c a b tol l) (workOf 1 0 k c a b tol l)
+unfolding innerOf workOf cutOf
 priced zero c tol a b l h =
     subst (λ (n : ℕ). Priced 0 (countIn c a b) (length l) (decided (countIn c a b) (lt (sub binary64 b a) tol) (got l) (pushed a b l) (none TooDeep)) (suc n)) (if-none (countIn c a b) (lt (sub binary64 b a) tol))
     (decide 0 (countIn c a b) (lt (sub binary64 b a) tol) a b l (none TooDeep) 0 h (λ two. (record { more = omega arith; paid = omega arith }, tt)))
 priced (suc k) c tol a b l h =
     let s = cutOf c a b tol in
-    decide (suc k) (countIn c a b) (lt (sub binary64 b a) tol) a b l
-    (splitBy s (λ l. innerOf k c a (s .lo) tol l) (λ l. innerOf k c (s .hi) b tol l) l)
-    (below s (λ l. innerOf k c a (s .lo) tol l) (λ l. callsOf k c a (s .lo) tol l) (λ l. callsOf k c (s .hi) b tol l) l)
-    h (λ two. by-cut k c tol (λ a b l h. priced k c tol a b l h) (hitsOf (rootAt c (middle a b)) (sub binary64 b a) tol) a b (middle a b) (nearby a b) l h two)
+    let found = splitBy s (λ l. innerOf k c a (s .lo) tol l) (λ l. innerOf k c (s .hi) b tol l) l in
+    let calls = below s (λ l. innerOf k c a (s .lo) tol l) (λ l. workOf 1 0 k c a (s .lo) tol l) (λ l. workOf 1 0 k c (s .hi) b tol l) l in
+    subst (λ (n : ℕ). Priced (suc k) (countIn c a b) (length l) (decided (countIn c a b) (lt (sub binary64 b a) tol) (got l) (pushed a b l) found) n) (if-one (countIn c a b) (lt (sub binary64 b a) tol) calls)
+    (decide (suc k) (countIn c a b) (lt (sub binary64 b a) tol) a b l found calls h (λ two. by-cut k c tol (λ a b l h. priced k c tol a b l h) (hitsOf (rootAt c (middle a b)) (sub binary64 b a) tol) a b (middle a b) (nearby a b) l h two))
 
 -- ---- the whole
 
@@ -183,7 +190,7 @@ most : (g : Found) → Fits g → weight g ≤ 65
 most (got l) f = omega (arith, f)
 most (none why) f = omega arith
 
-one-call : (c : List (List Ratio)) (tol a b : Float) (l : List Bracket) → length l ≤ 64 → callsOf 48 c a b tol l ≤ mostCalls
+one-call : (c : List (List Ratio)) (tol a b : Float) (l : List Bracket) → length l ≤ 64 → workOf 1 0 48 c a b tol l ≤ mostCalls
 one-call c tol a b l h =
     let p = priced 48 c tol a b l h in
     by-count (countIn c a b)
@@ -206,11 +213,89 @@ unless-most : (t : Bool) (n : ℕ) → n ≤ mostCalls → unlessNone t n ≤ mo
 unless-most true n h = omega arith
 unless-most false n h = h
 
-pub calls-bounded : PricePromise mostCalls
-unfolding callsFor
-calls-bounded = record {
-  bounded = λ c a b tol.
-      after-most (thenGot (marked (rootAt c a) a []) (λ l. marked (rootAt c b) b l)) _
-      (marked-both (rootAt c b) b (marked (rootAt c a) a []) (marked-fits (rootAt c a) a [] (omega arith)))
-      (λ l h. unless-most (le (end c a b) (start c a b)) _ (one-call c tol (start c a b) (end c a b) l h));
-}
+calls-most : (c : List (List Ratio)) (a b tol : Float) → callsFor c a b tol ≤ mostCalls
+unfolding workFor
+calls-most c a b tol =
+    after-most (thenGot (marked (rootAt c a) a []) (λ l. marked (rootAt c b) b l)) _
+    (marked-both (rootAt c b) b (marked (rootAt c a) a []) (marked-fits (rootAt c a) a [] (omega arith)))
+    (λ l h. unless-most (le (end c a b) (start c a b)) _ (one-call c tol (start c a b) (end c a b) l h))
+
+-- ---- what a call and a split count for
+
+module _ (call split : ℕ) where
+  there-times : (t : Bool) (p q : List Bracket → ℕ) → ((l : List Bracket) → p l ≤ (call + split) * q l) → (l : List Bracket) → ifThere t p l ≤ (call + split) * ifThere t q l
+  there-times true p q h l = h l
+  there-times false p q h l = omega arith
+
+  after-times : (g : Found) (p q : List Bracket → ℕ) → ((l : List Bracket) → p l ≤ (call + split) * q l) → after g p ≤ (call + split) * after g q
+  after-times (got l) p q h = h l
+  after-times (none why) p q h = omega arith
+
+  below-times : (s : Cut) (left : List Bracket → Found) (p q : List Bracket → ℕ) → ((l : List Bracket) → p l ≤ (call + split) * q l)
+      → (v w : List Bracket → ℕ) → ((l : List Bracket) → v l ≤ (call + split) * w l) → (l : List Bracket) → below s left p v l ≤ (call + split) * below s left q w l
+  below-times s left p q h v w k l =
+      after-times (marked (s .exact) (s .mid) l) _ _ (λ l.
+      let x = there-times (s .left) p q h l in
+      let y = after-times (partly (s .left) left l) (λ l. ifThere (s .right) v l) (λ l. ifThere (s .right) w l) (λ l. there-times (s .right) v w k l) in
+      omega (arith, x, y))
+
+  if-times : (n : ℕ) (narrow : Bool) (x y : ℕ) → x ≤ (call + split) * y → call + ifSplit n narrow (split + x) ≤ (call + split) * (1 + ifSplit n narrow (0 + y))
+  if-times zero narrow x y h = omega arith
+  if-times (suc zero) narrow x y h = omega arith
+  if-times (suc (suc n)) true x y h = omega arith
+  if-times (suc (suc n)) false x y h = omega (arith, h)
+
+  work-times : (k : ℕ) (c : List (List Ratio)) (tol a b : Float) (l : List Bracket) → workOf call split k c a b tol l ≤ (call + split) * workOf 1 0 k c a b tol l
+  unfolding workOf
+  work-times zero c tol a b l = omega arith
+  work-times (suc k) c tol a b l =
+      let s = cutOf c a b tol in
+      if-times (countIn c a b) (lt (sub binary64 b a) tol) _ _
+      (below-times s (λ l. innerOf k c a (s .lo) tol l) _ _ (λ l. work-times k c tol a (s .lo) l) _ _ (λ l. work-times k c tol (s .hi) b l) l)
+
+  unless-times : (t : Bool) (x y : ℕ) → x ≤ (call + split) * y → unlessNone t x ≤ (call + split) * unlessNone t y
+  unless-times true x y h = omega arith
+  unless-times false x y h = h
+
+  whole-times : (c : List (List Ratio)) (a b tol : Float) → workFor call split c a b tol ≤ (call + split) * callsFor c a b tol
+  unfolding workFor
+  whole-times c a b tol =
+      after-times (thenGot (marked (rootAt c a) a []) (λ l. marked (rootAt c b) b l)) _ _
+      (λ l. unless-times (le (end c a b) (start c a b)) _ _ (work-times 48 c tol (start c a b) (end c a b) l))
+
+few-looks : (c : List (List Ratio)) → looks c ≤ 1
+few-looks [] = omega arith
+few-looks (p ∷ c) = omega arith
+
+-- m is what a call counts for at most
+times-most : (e s w n m : ℕ) → w ≤ (e + s) * n → n ≤ mostCalls → e + s ≤ m → w ≤ mostCalls * m
+times-most e s w n m h k j =
+    let x : (e + s) * n ≤ m * n = mul-le-mul-right n j in
+    let y : m * n ≤ m * mostCalls = mul-le-mul-left m k in
+    omega (arith, h, x, y)
+
+evaluations-most : (c : List (List Ratio)) (a b tol : Float) → evaluationsFor c a b tol ≤ mostCalls * (2 * length c + 1) + 2
+evaluations-most c a b tol =
+    let z = few-looks c in
+    let w = times-most (2 * length c) (looks c) _ _ (2 * length c + 1) (whole-times (2 * length c) (looks c) c a b tol) (calls-most c a b tol) (omega (arith, z)) in
+    omega (arith, z, w)
+
+pub price-bounded : PricePromise mostCalls
+price-bounded = record { calls = calls-most; evaluations = evaluations-most }
+
+-- ---- the brackets
+
+unless-fits : (t : Bool) (x y : Found) → Fits x → Fits y → Fits (unlessEmpty t x y)
+unless-fits true x y a b = a
+unless-fits false x y a b = b
+
+then-fits : (g : Found) (f : List Bracket → Found) → Fits g → ((l : List Bracket) → length l ≤ 64 → Fits (f l)) → Fits (thenGot g f)
+then-fits (got l) f h k = k l h
+then-fits (none why) f h k = tt
+
+pub bisect-fits : (c : List (List Ratio)) (a b tol : Float) → Fits (bisectOf c a b tol)
+unfolding bisectOf
+bisect-fits c a b tol =
+    then-fits (thenGot (marked (rootAt c a) a []) (λ l. marked (rootAt c b) b l)) _
+    (marked-both (rootAt c b) b (marked (rootAt c a) a []) (marked-fits (rootAt c a) a [] (omega arith)))
+    (λ l h. unless-fits (le (end c a b) (start c a b)) (got l) _ h (priced 48 c tol (start c a b) (end c a b) l h .fits))

@@ -1,10 +1,11 @@
--- The price of an isolation (document 01, module 6): how many calls the bisection makes, and the number that is never passed.
+-- The price of a bisection (document 01, module 6): how many calls it makes and how often it works out a polynomial's value in floats, and the numbers that are never passed.
 use mathlib.Core.Bool.{Bool, true, false}
-use mathlib.Core.List.{List, []}
-use Prim.Native.Nat.{ℕ, zero, suc, _+_, _≤_}
+use mathlib.Core.List.{List, [], _∷_}
+use Prim.Native.Nat.{ℕ, zero, suc, _+_, _*_, _≤_}
 use lib.Ieee.{Float, binary64, sub, lt, le}
+use lib.ListN.{length}
 use Rattle.ratio.specs.declared.Ratio.{Ratio}
-use Rattle.yun.specs.Got.{got, none, thenGot}
+use Rattle.yun.specs.Got.{Got, got, none, thenGot}
 use Rattle.bisect.specs.declared.Bracket.{Bracket}
 use Rattle.bisect.specs.declared.Cut.{Cut}
 use Rattle.bisect.specs.Bracket.{Found, marked}
@@ -12,44 +13,57 @@ use Rattle.bisect.specs.Cut.{countIn, rootAt, cutOf}
 use Rattle.bisect.specs.Bisect.{partly, innerOf, start, end}
 
 -- a refusal ends the work
-abbrev pub after : Found → (List Bracket → ℕ) → ℕ
-after (got l) calls = calls l
-after (none why) calls = 0
+abbrev pub after : {X : Type 0} → Got X → (X → ℕ) → ℕ
+after (got x) work = work x
+after (none why) work = 0
 
 abbrev pub ifThere : Bool → (List Bracket → ℕ) → List Bracket → ℕ
-ifThere true calls l = calls l
-ifThere false calls l = 0
+ifThere true work l = work l
+ifThere false work l = 0
 
 abbrev pub ifSplit : ℕ → Bool → ℕ → ℕ
-ifSplit zero narrow calls = 0
-ifSplit (suc zero) narrow calls = 0
-ifSplit (suc (suc n)) true calls = 0
-ifSplit (suc (suc n)) false calls = calls
+ifSplit zero narrow work = 0
+ifSplit (suc zero) narrow work = 0
+ifSplit (suc (suc n)) true work = 0
+ifSplit (suc (suc n)) false work = work
 
--- the calls in both parts, the right one onto what the left one finds
+-- the work in both parts, the right one onto what the left one finds
 abbrev pub below : Cut → (List Bracket → Found) → (List Bracket → ℕ) → (List Bracket → ℕ) → List Bracket → ℕ
 below s left p q l = after (marked (s .exact) (s .mid) l) (λ l. ifThere (s .left) p l + after (partly (s .left) left l) (λ l. ifThere (s .right) q l))
 
--- this call and those below it
-unfoldable pub callsOf : ℕ → List (List Ratio) → Float → Float → Float → List Bracket → ℕ
-callsOf zero c a b tol l = 1
-callsOf (suc k) c a b tol l =
-    suc (ifSplit (countIn c a b) (lt (sub binary64 b a) tol)
-    (below (cutOf c a b tol) (λ l. innerOf k c a (cutOf c a b tol .lo) tol l) (λ l. callsOf k c a (cutOf c a b tol .lo) tol l) (λ l. callsOf k c (cutOf c a b tol .hi) b tol l) l))
+-- this call and those below it, where each call counts for `call` and each split for `split` more
+unfoldable pub workOf : ℕ → ℕ → ℕ → List (List Ratio) → Float → Float → Float → List Bracket → ℕ
+workOf call split zero c a b tol l = call
+workOf call split (suc k) c a b tol l =
+    call + ifSplit (countIn c a b) (lt (sub binary64 b a) tol)
+    (split + below (cutOf c a b tol) (λ l. innerOf k c a (cutOf c a b tol .lo) tol l) (λ l. workOf call split k c a (cutOf c a b tol .lo) tol l) (λ l. workOf call split k c (cutOf c a b tol .hi) b tol l) l)
 
 abbrev pub unlessNone : Bool → ℕ → ℕ
-unlessNone true calls = 0
-unlessNone false calls = calls
+unlessNone true work = 0
+unlessNone false work = work
 
--- the calls of a whole bisection
-unfoldable pub callsFor : List (List Ratio) → Float → Float → Float → ℕ
-callsFor c a b tol =
+-- the same of a whole bisection
+unfoldable pub workFor : ℕ → ℕ → List (List Ratio) → Float → Float → Float → ℕ
+workFor call split c a b tol =
     after (thenGot (marked (rootAt c a) a []) (λ l. marked (rootAt c b) b l)) (λ l.
-    unlessNone (le (end c a b) (start c a b)) (callsOf 48 c (start c a b) (end c a b) tol l))
+    unlessNone (le (end c a b) (start c a b)) (workOf call split 48 c (start c a b) (end c a b) tol l))
+
+abbrev pub callsFor : List (List Ratio) → Float → Float → Float → ℕ
+callsFor c a b tol = workFor 1 0 c a b tol
+
+-- how often `rootAt` works out a value
+abbrev pub looks : List (List Ratio) → ℕ
+looks [] = 0
+looks (p ∷ c) = 1
+
+-- a call takes every entry at both ends, a split the first in the middle; before them the first is taken at both ends
+abbrev pub evaluationsFor : List (List Ratio) → Float → Float → Float → ℕ
+evaluationsFor c a b tol = 2 * looks c + workFor (2 * length c) (looks c) c a b tol
 
 -- two calls for each of 48 splits and one more, for each of 64 brackets and a refusal
 abbrev pub mostCalls : ℕ
 mostCalls = 6305
 
 pub record PricePromise (most : ℕ) : Type 0 where
-  pub bounded : (c : List (List Ratio)) (a b tol : Float) → callsFor c a b tol ≤ most
+  pub calls : (c : List (List Ratio)) (a b tol : Float) → callsFor c a b tol ≤ most
+  pub evaluations : (c : List (List Ratio)) (a b tol : Float) → evaluationsFor c a b tol ≤ most * (2 * length c + 1) + 2

@@ -3,3 +3,4 @@ pub mod Slides
 pub mod Walks
 pub mod Ways
 pub mod Promises
+pub mod Prices

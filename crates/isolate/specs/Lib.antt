@@ -3,3 +3,4 @@ pub mod Sorted
 pub mod Apart
 pub mod Isolate
 pub mod Promise
+pub mod Price

@@ -16,12 +16,19 @@ ghost use Rattle.isolate.specs.Sorted.{slideOf, inserted, placed, rootsO
 ghost use Rattle.isolate.specs.Apart.{keptOf, apartOnto};
 ghost use Rattle.isolate.specs.Isolate.{limitsOf, isolateFrom, isolateFor};
 ghost use Rattle.isolate.specs.Promise.{IsolationPromise};
+ghost use Rattle.isolate.specs.Price.{isolationQuote, QuotesIsolation};
 
 // The roots, rising, or why there are none.
 pub struct Isolation {
     pub outcome: Outcome,
     pub roots: [f64; 64],
     pub len: usize,
+}
+
+// The most that an isolation takes, or why there is no quote.
+pub enum Quote {
+    Most { calls: u64, evaluations: u64 },
+    Refused(Reason),
 }
 
 // One place of the walk that makes room: what stays there, what is carried on, and whether the rest moves up.
@@ -226,5 +233,22 @@ pub fn isolate_real_roots(p: Poly, lo: f64, hi: f64, tol: f64) -> Isolation
         isolate_plain(p, lo, hi, tol)
     } else {
         refused(poly::reason(d))
+    }
+}
+
+// ---- the price
+
+// The calls of the bisection and the values worked out in floats that no isolation passes, from the degree alone.
+pub fn isolation_price(degree: u64) -> Quote
+    ensures is { λ r. ⌜ r ≡ isolationQuote degree ⌝ }
+    ensures promise { λ r. ⌜ QuotesIsolation degree r ⌝ }
+{
+    if degree > 31 {
+        Quote::Refused(Reason::TooLong)
+    } else {
+        Quote::Most {
+            calls: 6305,
+            evaluations: 12610 * degree + 31845,
+        }
     }
 }

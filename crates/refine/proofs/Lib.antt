@@ -1,3 +1,4 @@
 pub mod Finite
 pub mod Halvings
 pub mod Chosen
+pub mod Prices
