@@ -5,7 +5,6 @@ use mathlib.Core.List.{List}
 use Prim.Native.Nat.{ℕ, zero, suc, _-_, _≤_, _<_}
 use native.Mathlib.Omega.{arith}
 use lib.Ieee.{Float, binary64, sub, lt}
-use Rattle.ratio.specs.declared.Ratio.{Ratio}
 use Rattle.ratio.specs.declared.Reason.the-variants.{TooDeep}
 use Rattle.yun.specs.Got.{Got, got, none, thenGot}
 use Rattle.bisect.specs.declared.Bracket.{Bracket}
@@ -58,7 +57,7 @@ then-missing g e x h = sym (then-none g (λ l. partly e x l) (λ l. ap (λ (b : 
 
 -- ---- one call
 
-module _ (k : ℕ) (c : List (List Ratio)) (a b tol : Float) (g : Found) where
+module _ (k : ℕ) (c : List (List Float)) (a b tol : Float) (g : Found) where
   abbrev all : Found
   all = thenGot g (λ l. innerOf k c a b tol l)
 

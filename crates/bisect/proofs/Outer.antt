@@ -3,7 +3,6 @@ use mathlib.Core.Path.{_≡_, refl, sym, ap, ap₂, _∙_}
 use mathlib.Core.Bool.{Bool, true, false}
 use mathlib.Core.List.{List, []}
 use lib.Ieee.{Float, binary64, add, sub, le}
-use Rattle.ratio.specs.declared.Ratio.{Ratio}
 use Rattle.yun.specs.Got.{Got, got, none, thenGot}
 use Rattle.bisect.specs.declared.Bracket.{Bracket}
 use Rattle.bisect.specs.declared.Brackets.{Brackets}
@@ -22,7 +21,7 @@ ends-found zero one two ra rb a b e f g =
     ∙ ap (λ (x : Found). thenGot x (λ l. marked rb b l)) (read-of one (thenGot (foundIn zero) (λ l. marked ra a l)) f)
     ∙ ap (λ (x : Found). thenGot (thenGot x (λ l. marked ra a l)) (λ l. marked rb b l)) (read-of zero (got []) e)
 
-module _ (c : List (List Ratio)) (a b tol : Float) (ra rb : Bool) (ea : ra ≡ rootAt c a) (eb : rb ≡ rootAt c b)
+module _ (c : List (List Float)) (a b tol : Float) (ra rb : Bool) (ea : ra ≡ rootAt c a) (eb : rb ≡ rootAt c b)
     (x y : Float) (ex : x ≡ inward ra a (add binary64 a (margin a b))) (ey : y ≡ inward rb b (sub binary64 b (margin a b)))
     (f : Found) (ef : f ≡ thenGot (marked ra a []) (λ l. marked rb b l)) where
   x-is : x ≡ start c a b

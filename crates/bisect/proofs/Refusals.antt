@@ -6,7 +6,6 @@ use Prim.Native.Nat.{ℕ, zero, suc}
 use lib.Dec.{ltb}
 use lib.Ieee.{Float, binary64, sub, lt, le}
 use lib.ListN.{length}
-use Rattle.ratio.specs.declared.Ratio.{Ratio}
 use Rattle.ratio.specs.declared.Reason.the-variants.{TooLong, TooDeep}
 use Rattle.yun.specs.Got.{Got, got, none, thenGot}
 use Rattle.bisect.specs.declared.Bracket.{Bracket}
@@ -51,7 +50,7 @@ split-stops s x y h k l =
     (then-stops (marked (s .exact) (s .mid) l) (λ l. partly (s .left) x l) (marked-stops (s .exact) (s .mid) l) (λ l. partly-stops (s .left) x h l))
     (λ l. partly-stops (s .right) y k l)
 
-inner-stops : (k : ℕ) (c : List (List Ratio)) (a b tol : Float) (l : List Bracket) → Stops (innerOf k c a b tol l)
+inner-stops : (k : ℕ) (c : List (List Float)) (a b tol : Float) (l : List Bracket) → Stops (innerOf k c a b tol l)
 unfolding innerOf
 inner-stops zero c a b tol l = decided-stops (countIn c a b) (lt (sub binary64 b a) tol) (got l) (pushed a b l) (none TooDeep) tt (pushed-stops a b l) (λ h. refl)
 inner-stops (suc k) c a b tol l =
@@ -63,7 +62,7 @@ unless-stops : (t : Bool) (x y : Found) → Stops x → Stops y → Stops (unles
 unless-stops true x y a b = a
 unless-stops false x y a b = b
 
-pub bisect-stops : (c : List (List Ratio)) (a b tol : Float) → Stops (bisectOf c a b tol)
+pub bisect-stops : (c : List (List Float)) (a b tol : Float) → Stops (bisectOf c a b tol)
 unfolding bisectOf
 bisect-stops c a b tol =
     then-stops (thenGot (marked (rootAt c a) a []) (λ l. marked (rootAt c b) b l)) (λ l. unlessEmpty (le (end c a b) (start c a b)) (got l) (innerOf 48 c (start c a b) (end c a b) tol l))

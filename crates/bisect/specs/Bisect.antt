@@ -3,7 +3,6 @@ use mathlib.Core.Bool.{Bool, true, false}
 use mathlib.Core.List.{List, []}
 use Prim.Native.Nat.{ℕ, zero, suc}
 use lib.Ieee.{Float, binary64, ofBits, add, sub, mul, lt, le}
-use Rattle.ratio.specs.declared.Ratio.{Ratio}
 use Rattle.ratio.specs.declared.Reason.the-variants.{TooDeep}
 use Rattle.yun.specs.Got.{got, none, thenGot}
 use Rattle.bisect.specs.declared.Bracket.{Bracket}
@@ -27,7 +26,7 @@ abbrev pub splitBy : Cut → (List Bracket → Found) → (List Bracket → Foun
 splitBy s left right l = thenGot (thenGot (marked (s .exact) (s .mid) l) (λ l. partly (s .left) left l)) (λ l. partly (s .right) right l)
 
 -- the brackets between a and b behind those in l
-unfoldable pub innerOf : ℕ → List (List Ratio) → Float → Float → Float → List Bracket → Found
+unfoldable pub innerOf : ℕ → List (List Float) → Float → Float → Float → List Bracket → Found
 innerOf zero c a b tol l = decided (countIn c a b) (lt (sub binary64 b a) tol) (got l) (pushed a b l) (none TooDeep)
 innerOf (suc k) c a b tol l =
     decided (countIn c a b) (lt (sub binary64 b a) tol) (got l) (pushed a b l)
@@ -42,10 +41,10 @@ inward false x y = x
 abbrev pub margin : Float → Float → Float
 margin a b = mul binary64 (sub binary64 b a) (ofBits binary64 0x3d71_9799_812d_ea11)
 
-abbrev pub start : List (List Ratio) → Float → Float → Float
+abbrev pub start : List (List Float) → Float → Float → Float
 start c a b = inward (rootAt c a) a (add binary64 a (margin a b))
 
-abbrev pub end : List (List Ratio) → Float → Float → Float
+abbrev pub end : List (List Float) → Float → Float → Float
 end c a b = inward (rootAt c b) b (sub binary64 b (margin a b))
 
 abbrev pub unlessEmpty : Bool → Found → Found → Found
@@ -53,7 +52,7 @@ unlessEmpty true nothing more = nothing
 unlessEmpty false nothing more = more
 
 -- exact roots at the ends, then what is between them
-unfoldable pub bisectOf : List (List Ratio) → Float → Float → Float → Found
+unfoldable pub bisectOf : List (List Float) → Float → Float → Float → Found
 bisectOf c a b tol =
     thenGot (thenGot (marked (rootAt c a) a []) (λ l. marked (rootAt c b) b l)) (λ l.
     unlessEmpty (le (end c a b) (start c a b)) (got l) (innerOf 48 c (start c a b) (end c a b) tol l))

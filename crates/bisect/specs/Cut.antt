@@ -1,21 +1,25 @@
--- Document 01, module 6: how many sign changes a stretch loses, and where it is split. An exact root in the middle of a stretch wider than twice the tolerance stands alone; the parts then begin a little to either side of it.
+-- Document 01, module 6: how many sign changes a stretch loses, and where it is split. The chain is given by its rows of floats. An exact root in the middle of a stretch wider than twice the tolerance stands alone; the parts then begin a little to either side of it.
 use mathlib.Core.Bool.{Bool, true, false, _&&_}
 use mathlib.Core.List.{List, [], _∷_}
 use Prim.Native.Nat.{ℕ, _-_}
 use lib.Ieee.{Float, binary64, ofBits, add, sub, mul, div, lt, eq}
-use Rattle.ratio.specs.declared.Ratio.{Ratio}
-use Rattle.sturm.specs.Value.{evalOf}
+use Rattle.sturm.specs.Value.{horner}
 use Rattle.sturm.specs.Changes.{changes}
 use Rattle.sturm.specs.Along.{signsAt}
 use Rattle.bisect.specs.declared.Cut.{Cut}
+use Rattle.bisect.specs.declared.End.{End}
 
-abbrev pub countIn : List (List Ratio) → Float → Float → ℕ
-countIn c a b = changes (signsAt c a) - changes (signsAt c b)
+abbrev pub countIn : List (List Float) → Float → Float → ℕ
+countIn rows a b = changes (signsAt rows a) - changes (signsAt rows b)
+
+-- a place and the changes there, so that they are not counted again
+abbrev pub endOf : List (List Float) → Float → End
+endOf rows x = record { at = x; changes = changes (signsAt rows x) }
 
 -- the first of the chain is zero at x, in floats
-abbrev pub rootAt : List (List Ratio) → Float → Bool
+abbrev pub rootAt : List (List Float) → Float → Bool
 rootAt [] x = false
-rootAt (p ∷ c) x = eq (evalOf p x) (ofBits binary64 0)
+rootAt (p ∷ rows) x = eq (horner p x) (ofBits binary64 0)
 
 abbrev pub middle : Float → Float → Float
 middle a b = div binary64 (add binary64 a b) (ofBits binary64 0x4000_0000_0000_0000)
@@ -37,5 +41,5 @@ abbrev pub cutIf : Bool → Float → Float → Float → Float → Cut
 cutIf true a b m eps = aside a b m (sub binary64 m eps) (add binary64 m eps)
 cutIf false a b m eps = halves m
 
-unfoldable pub cutOf : List (List Ratio) → Float → Float → Float → Cut
-cutOf c a b tol = cutIf (hitsOf (rootAt c (middle a b)) (sub binary64 b a) tol) a b (middle a b) (nearby a b)
+unfoldable pub cutOf : List (List Float) → Float → Float → Float → Cut
+cutOf rows a b tol = cutIf (hitsOf (rootAt rows (middle a b)) (sub binary64 b a) tol) a b (middle a b) (nearby a b)

@@ -4,11 +4,17 @@ use chain::Chain;
 use ratio::Outcome;
 use ratio::Reason;
 ghost use mathlib.Core.Path.{_≡_};
-ghost use mathlib.Core.List.{[]};
+ghost use mathlib.Core.Bool.{false};
+ghost use mathlib.Core.List.{List, []};
+ghost use Prim.Native.Nat.{_≤_};
+ghost use lib.Ieee.{Float};
+ghost use lib.ListN.{length, take};
 ghost use Rattle.chain.specs.Answer.{entriesOf};
+ghost use Rattle.sturm.specs.Along.{rowsOf};
+ghost use Rattle.sturm.specs.Rows.{rowsIn};
 ghost use Rattle.yun.specs.Got.{got, thenGot};
 ghost use Rattle.bisect.specs.Bracket.{foundIn, refusedFor, bracketsOf, Kept, pushed, marked};
-ghost use Rattle.bisect.specs.Cut.{countIn, rootAt, hitsOf, cutOf};
+ghost use Rattle.bisect.specs.Cut.{endOf, rootAt, hitsOf, cutOf};
 ghost use Rattle.bisect.specs.Bisect.{innerOf, inward as inwardOf, bisectOf};
 ghost use Rattle.bisect.specs.Price.{mostCalls, PricePromise};
 
@@ -23,6 +29,12 @@ pub struct Brackets {
     pub outcome: Outcome,
     pub items: [Bracket; 64],
     pub len: usize,
+}
+
+// A place and the sign changes of the chain there.
+struct End {
+    at: f64,
+    changes: usize,
 }
 
 // Where a stretch is split: the middle and whether it is a root, the inner ends of both parts, and which of them there are.
@@ -92,22 +104,31 @@ fn mark(found: Brackets, exact: bool, x: f64) -> Brackets
 
 // ---- where to split
 
-// The sign changes lost between the ends, at least 0.
-fn count(c: Chain, a: f64, b: f64) -> usize
-    ensures { λ r. ⌜ r ≡ countIn (entriesOf c) a b ⌝ }
+fn end_at(values: &[f64], sizes: &[usize], x: f64) -> End
+    ensures { λ r. ⌜ r ≡ endOf (rowsIn (now (values .entry)) (now (sizes .entry))) x ⌝ }
 {
-    terms::less(sturm::sign_changes(c, a), sturm::sign_changes(c, b))
+    End {
+        at: x,
+        changes: sturm::sign_changes(values, sizes, x),
+    }
 }
 
-// Whether the first of the chain is zero at x, in floats.
-fn is_root(c: Chain, x: f64) -> bool
-    ensures { λ r. ⌜ r ≡ rootAt (entriesOf c) x ⌝ }
+// No more than there are.
+fn within(n: usize, all: usize) -> usize
+    ensures { λ r. ⌜ (r ≤ all) × ((l : List Float) → length l ≡ all → take r l ≡ take n l) ⌝ }
 {
-    if c.len == 0 {
+    if n < all { n } else { all }
+}
+
+// Whether the first row is zero at x, in floats.
+fn is_root(values: &[f64], sizes: &[usize], x: f64) -> bool
+    ensures { λ r. ⌜ r ≡ rootAt (rowsIn (now (values .entry)) (now (sizes .entry))) x ⌝ }
+{
+    if sizes.len() == 0 {
         return false;
     }
-    let p = c.polys[0];
-    sturm::eval_f64(p, x) == 0.0
+    let n = within(sizes[0], values.len());
+    sturm::eval_f64(&values[..n], x) == 0.0
 }
 
 // An exact root in the middle counts where the stretch is wide enough.
@@ -117,11 +138,11 @@ fn hits(root: bool, width: f64, tol: f64) -> bool
     if root { width > 2.0 * tol } else { false }
 }
 
-fn split_at(c: Chain, a: f64, b: f64, tol: f64) -> Cut
-    ensures { λ r. ⌜ r ≡ cutOf (entriesOf c) a b tol ⌝ }
+fn split_at(values: &[f64], sizes: &[usize], a: f64, b: f64, tol: f64) -> Cut
+    ensures { λ r. ⌜ r ≡ cutOf (rowsIn (now (values .entry)) (now (sizes .entry))) a b tol ⌝ }
 {
     let mid = (a + b) / 2.0;
-    if !hits(is_root(c, mid), b - a, tol) {
+    if !hits(is_root(values, sizes, mid), b - a, tol) {
         return Cut {
             exact: false,
             mid,
@@ -144,49 +165,64 @@ fn split_at(c: Chain, a: f64, b: f64, tol: f64) -> Cut
     }
 }
 
+// The end at which the right part begins: the left part's own, unless an exact root stands between them.
+fn beyond(values: &[f64], sizes: &[usize], s: Cut, lo: End) -> End
+    requires { ⌜ (s .exact ≡ false → s .hi ≡ s .lo) × (lo ≡ endOf (rowsIn (now values) (now sizes)) (s .lo)) ⌝ }
+    ensures { λ r. ⌜ r ≡ endOf (rowsIn (now (values .entry)) (now (sizes .entry))) (s .hi) ⌝ }
+{
+    if s.exact {
+        end_at(values, sizes, s.hi)
+    } else {
+        lo
+    }
+}
+
 // ---- halving
 
 // The brackets between a and b behind those found, the left part first; `depth` says how many more splits there may be.
 fn bisect_isolate_inner(
-    c: Chain,
-    a: f64,
-    b: f64,
+    values: &[f64],
+    sizes: &[usize],
+    a: End,
+    b: End,
     tol: f64,
     mut found: Brackets,
     depth: usize,
 ) -> Brackets
-    requires { ⌜ Kept found ⌝ }
-    ensures { λ r. ⌜ r ≡ bracketsOf (thenGot (foundIn found) (λ l. innerOf depth (entriesOf c) a b tol l)) ⌝ }
+    requires { ⌜ Kept found × (a ≡ endOf (rowsIn (now values) (now sizes)) (a .at)) × (b ≡ endOf (rowsIn (now values) (now sizes)) (b .at)) ⌝ }
+    ensures { λ r. ⌜ r ≡ bracketsOf (thenGot (foundIn found) (λ l. innerOf depth (rowsIn (now (values .entry)) (now (sizes .entry))) (a .at) (b .at) tol l)) ⌝ }
 {
     let o = found.outcome;
     if let Outcome::Refused(_) = o {
         return found;
     }
-    let n = count(c, a, b);
+    let n = terms::less(a.changes, b.changes);
     if n == 0 {
         return found;
     }
     if n == 1 {
-        return push(found, a, b);
+        return push(found, a.at, b.at);
     }
-    if b - a < tol {
-        return push(found, a, b);
+    if b.at - a.at < tol {
+        return push(found, a.at, b.at);
     }
     if depth == 0 {
         return refused(Reason::TooDeep);
     }
-    let s = split_at(c, a, b, tol);
+    let s = split_at(values, sizes, a.at, b.at, tol);
     let now = mark(found, s.exact, s.mid);
+    let lo = end_at(values, sizes, s.lo);
+    let hi = beyond(values, sizes, s, lo);
     if s.left {
         // Kept where the earlier ones were: a level of the recursion has no room to waste.
-        found = bisect_isolate_inner(c, a, s.lo, tol, now, depth - 1);
+        found = bisect_isolate_inner(values, sizes, a, lo, tol, now, depth - 1);
         if s.right {
-            return bisect_isolate_inner(c, s.hi, b, tol, found, depth - 1);
+            return bisect_isolate_inner(values, sizes, hi, b, tol, found, depth - 1);
         }
         return found;
     }
     if s.right {
-        return bisect_isolate_inner(c, s.hi, b, tol, now, depth - 1);
+        return bisect_isolate_inner(values, sizes, hi, b, tol, now, depth - 1);
     }
     now
 }
@@ -199,11 +235,11 @@ fn inward(exact: bool, x: f64, y: f64) -> f64
 }
 
 // The brackets from a to b: exact roots at the ends first, then what is between them.
-pub fn bisect_isolate(c: Chain, a: f64, b: f64, tol: f64) -> Brackets
-    ensures is { λ r. ⌜ r ≡ bracketsOf (bisectOf (entriesOf c) a b tol) ⌝ }
+fn between(values: &[f64], sizes: &[usize], a: f64, b: f64, tol: f64) -> Brackets
+    ensures { λ r. ⌜ r ≡ bracketsOf (bisectOf (rowsIn (now (values .entry)) (now (sizes .entry))) a b tol) ⌝ }
 {
-    let at_a = is_root(c, a);
-    let at_b = is_root(c, b);
+    let at_a = is_root(values, sizes, a);
+    let at_b = is_root(values, sizes, b);
     let found = mark(mark(nothing(), at_a, a), at_b, b);
     let span = b - a;
     let a_eff = inward(at_a, a, a + span * 1e-12);
@@ -211,7 +247,19 @@ pub fn bisect_isolate(c: Chain, a: f64, b: f64, tol: f64) -> Brackets
     if a_eff >= b_eff {
         return found;
     }
-    bisect_isolate_inner(c, a_eff, b_eff, tol, found, 48)
+    let left = end_at(values, sizes, a_eff);
+    let right = end_at(values, sizes, b_eff);
+    bisect_isolate_inner(values, sizes, left, right, tol, found, 48)
+}
+
+// The brackets along a chain, whose floats are worked out once.
+pub fn bisect_isolate(c: Chain, a: f64, b: f64, tol: f64) -> Brackets
+    ensures is { λ r. ⌜ r ≡ bracketsOf (bisectOf (rowsOf (entriesOf c)) a b tol) ⌝ }
+{
+    let t = sturm::chain_floats(c);
+    let values = t.values;
+    let sizes = t.sizes;
+    between(&values, &sizes[..t.len], a, b, tol)
 }
 
 // ---- the price

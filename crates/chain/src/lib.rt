@@ -73,7 +73,10 @@ fn follow(p: Poly, d: Poly) -> Chain
     let mut a = p;
     let mut b = d;
     while b.length() > 0 {
-        out = push(out, b);
+        // Not by `push`, which would copy the whole chain for each entry.
+        let n = out.len;
+        out.polys[n] = b;
+        out.len = n + 1;
         let r = next(a, b);
         let o = r.outcome;
         if let Outcome::Refused(why) = o {

@@ -3,12 +3,11 @@ use mathlib.Core.Path.{_≡_, refl, sym, ap, subst, _∙_}
 use mathlib.Core.Bool.{Bool, true, false}
 use mathlib.Core.List.{List, [], _∷_}
 use Prim.Native.Nat.{ℕ, _+_, _*_, _≤_, _<_}
-use native.Mathlib.Nat.{mul-le-mul-left, le-trans}
 use native.Mathlib.Omega.{arith}
 use borrow.Author.Tests.{le-leb, lt-leb}
 use lib.Dec.{leb}
 use lib.Ieee.{Float}
-use lib.ListN.{length}
+use lib.ListN.{length, length-map}
 use Rattle.algebra.specs.Textbook.{HasDegree}
 use Rattle.ratio.specs.declared.Ratio.{Ratio}
 use Rattle.ratio.specs.declared.Reason.{Reason}
@@ -17,8 +16,6 @@ use Rattle.terms.specs.declared.Poly.{Poly}
 use Rattle.terms.specs.Machine.{Ran, fine, over, plain}
 use Rattle.terms.specs.Poly.{termsOf, trim}
 use Rattle.terms.proofs.MeaningCanonical.{Canonical}
-use Rattle.poly.specs.declared.Gate.{Gate}
-use Rattle.poly.specs.declared.Gate.the-variants.{Open}
 use Rattle.poly.specs.Door.{doorOf, both, entered}
 use Rattle.poly.specs.Promise.{reading}
 use Rattle.poly.proofs.Canonical.{opened, both-open}
@@ -27,6 +24,8 @@ use Rattle.euclid.proofs.Doors.{entered-keeps, degree-few, degree-length}
 use Rattle.yun.specs.Got.{Got, got, none, listFrom}
 use Rattle.chain.specs.Sequence.{sequenceOf}
 use Rattle.chain.proofs.MeaningChain.{sequence-means}
+use Rattle.sturm.specs.Value.{floatsOf}
+use Rattle.sturm.specs.Along.{rowsOf}
 use Rattle.sturm.proofs.Promises.{Part, part-means}
 use Rattle.bisect.specs.Bracket.{Found}
 use Rattle.bisect.specs.Bisect.{bisectOf}
@@ -42,21 +41,21 @@ use Rattle.isolate.specs.Price.{rootsWork, callsFrom, evaluationsFrom, c
 
 -- ---- the work behind a chain
 
-roots-most : (p : List Ratio) (tol : Float) (b : List Bracket) → rootsWork p tol b ≤ length b * mostOfRoot
+roots-most : (p : List Float) (tol : Float) (b : List Bracket) → rootsWork p tol b ≤ length b * mostOfRoot
 unfolding rootsWork
 roots-most p tol [] = omega arith
 roots-most p tol (x ∷ b) = omega (arith, root-most p x tol, roots-most p tol b)
 
-brackets-most : (f : List Ratio) (tol : Float) (g : Found) → Fits g → after g (λ b. rootsWork f tol b) ≤ 64 * mostOfRoot
+brackets-most : (f : List Float) (tol : Float) (g : Found) → Fits g → after g (λ b. rootsWork f tol b) ≤ 64 * mostOfRoot
 brackets-most f tol (got b) h = omega (arith, roots-most f tol b, h)
 brackets-most f tol (none why) h = omega arith
 
 module _ (p : List Ratio) (lo hi tol : Float) (n : ℕ) (short : length p ≤ n + 1) where
   abbrev work : List Ratio → List (List Ratio) → ℕ
-  work f c = evaluationsFor c lo hi tol + after (bisectOf c lo hi tol) (λ b. rootsWork f tol b)
+  work f c = evaluationsFor (rowsOf c) lo hi tol + after (bisectOf (rowsOf c) lo hi tol) (λ b. rootsWork (floatsOf f) tol b)
 
   work-most : (f : List Ratio) (c : List (List Ratio)) → length c ≤ n + 1 → work f c ≤ evaluationsPrice n
-  work-most f c h = omega (arith, h, price-bounded .evaluations c lo hi tol, brackets-most f tol (bisectOf c lo hi tol) (bisect-fits c lo hi tol))
+  work-most f c h = omega (arith, h, length-map c floatsOf, price-bounded .evaluations (rowsOf c) lo hi tol, brackets-most (floatsOf f) tol (bisectOf (rowsOf c) lo hi tol) (bisect-fits (rowsOf c) lo hi tol))
 
   chain-most : (f : List Ratio) → Part p f → (s : Got (List (List Ratio))) → sequenceOf f ≡ s → after s (λ c. work f c) ≤ evaluationsPrice n
   chain-most f t (got c) e = work-most f c (omega (arith, sequence-means f (t .canonical) c e .few, t .short, short))
@@ -78,7 +77,7 @@ after-most (none why) f m h = omega arith
 
 calls-most : (p : List Ratio) (lo hi tol : Float) → callsFrom p lo hi tol ≤ mostCalls
 unfolding callsFrom
-calls-most p lo hi tol = after-most (listFrom (squareFree plain p 0)) _ mostCalls (λ f. after-most (sequenceOf f) _ mostCalls (λ c. price-bounded .calls c lo hi tol))
+calls-most p lo hi tol = after-most (listFrom (squareFree plain p 0)) _ mostCalls (λ f. after-most (sequenceOf f) _ mostCalls (λ c. price-bounded .calls (rowsOf c) lo hi tol))
 
 -- ---- the door
 
@@ -120,7 +119,7 @@ module _ (n : ℕ) where
   quote-long h = ap (λ t. quoteIf t mostCalls (evaluationsPrice n)) (sym (lt-leb n 31 h))
 
   -- as the code works it out
-  pub quote-most : n ≤ 31 → Most mostCalls (12610 * n + 31845) ≡ isolationQuote n
+  pub quote-most : n ≤ 31 → Most mostCalls (3187 * n + 19237) ≡ isolationQuote n
   quote-most h =
-      let e : 12610 * n + 31845 ≡ evaluationsPrice n = omega arith in
+      let e : 3187 * n + 19237 ≡ evaluationsPrice n = omega arith in
       ap (λ k. Most mostCalls k) e ∙ ap (λ t. quoteIf t mostCalls (evaluationsPrice n)) (sym (le-leb n 31 h))

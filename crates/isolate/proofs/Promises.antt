@@ -26,6 +26,8 @@ use Rattle.yun.specs.Got.{Got, got, none, thenGot, listFrom}
 use Rattle.chain.specs.Sequence.{sequenceOf}
 use Rattle.chain.proofs.MeaningChain.{Sequence, sequence-means}
 use Rattle.chain.proofs.Refusals.{Overflows, list-over, sequence-over}
+use Rattle.sturm.specs.Value.{floatsOf}
+use Rattle.sturm.specs.Along.{rowsOf}
 use Rattle.sturm.proofs.Promises.{Part, part-means}
 use Rattle.bisect.specs.Bracket.{Found}
 use Rattle.bisect.proofs.Refusals.{Stops, bisect-stops}
@@ -40,9 +42,9 @@ use Rattle.isolate.specs.Promise.{Isolates, IsolationPromise}
 use Rattle.isolate.proofs.Hold.{roots-of}
 
 module _ (p : List Ratio) (c : Canonical p) (lo hi tol : Float) (r : List Float) where
-  from-brackets : (f : List Ratio) → Part p f → (l : List (List Ratio)) → sequenceOf f ≡ got l → (b : Got (List Bracket)) → bisectOf l lo hi tol ≡ b → thenGot b (λ b. got (apartOnto tol (rootsOnto f tol b []) [])) ≡ got r → Isolates (rats p) lo hi tol r
+  from-brackets : (f : List Ratio) → Part p f → (l : List (List Ratio)) → sequenceOf f ≡ got l → (b : Got (List Bracket)) → bisectOf (rowsOf l) lo hi tol ≡ b → thenGot b (λ b. got (apartOnto tol (rootsOnto (floatsOf f) tol b []) [])) ≡ got r → Isolates (rats p) lo hi tol r
   from-brackets f t l e (got b) d g =
-      let i : r ≡ apartOnto tol (rootsOnto f tol b []) [] = cc in
+      let i : r ≡ apartOnto tol (rootsOnto (floatsOf f) tol b []) [] = cc in
       record {
         part = f;
         chain = l;
@@ -56,11 +58,11 @@ module _ (p : List Ratio) (c : Canonical p) (lo hi tol : Float) (r : List Float)
       }
   from-brackets f t l e (none why) d g = absurd (let z : _≡_ {A = ℕ} 0 1 = cc in omega arith)
 
-  from-chain : (f : List Ratio) → Part p f → (s : Got (List (List Ratio))) → sequenceOf f ≡ s → thenGot s (λ l. thenGot (bisectOf l lo hi tol) (λ b. got (apartOnto tol (rootsOnto f tol b []) []))) ≡ got r → Isolates (rats p) lo hi tol r
-  from-chain f t (got l) e g = from-brackets f t l e (bisectOf l lo hi tol) refl g
+  from-chain : (f : List Ratio) → Part p f → (s : Got (List (List Ratio))) → sequenceOf f ≡ s → thenGot s (λ l. thenGot (bisectOf (rowsOf l) lo hi tol) (λ b. got (apartOnto tol (rootsOnto (floatsOf f) tol b []) []))) ≡ got r → Isolates (rats p) lo hi tol r
+  from-chain f t (got l) e g = from-brackets f t l e (bisectOf (rowsOf l) lo hi tol) refl g
   from-chain f t (none why) e g = absurd (let z : _≡_ {A = ℕ} 0 1 = cc in omega arith)
 
-  from-part : (s : Ran ℕ (List Ratio)) → squareFree plain p 0 ≡ s → thenGot (listFrom s) (λ f. thenGot (sequenceOf f) (λ l. thenGot (bisectOf l lo hi tol) (λ b. got (apartOnto tol (rootsOnto f tol b []) [])))) ≡ got r → Isolates (rats p) lo hi tol r
+  from-part : (s : Ran ℕ (List Ratio)) → squareFree plain p 0 ≡ s → thenGot (listFrom s) (λ f. thenGot (sequenceOf f) (λ l. thenGot (bisectOf (rowsOf l) lo hi tol) (λ b. got (apartOnto tol (rootsOnto (floatsOf f) tol b []) [])))) ≡ got r → Isolates (rats p) lo hi tol r
   from-part (fine k f) e g =
       let t = part-means p c k f e in
       from-chain (trim f) (subst (Part p) (sym (t .canonical .trimmed)) t) (sequenceOf (trim f)) refl g
@@ -93,7 +95,7 @@ unfolding isolateFrom
 isolate-refuses p lo hi tol =
     then-refuses (listFrom (squareFree plain p 0)) _ (over-refuses (listFrom (squareFree plain p 0)) (list-over (squareFree plain p 0))) (λ f.
     then-refuses (sequenceOf f) _ (over-refuses (sequenceOf f) (sequence-over f)) (λ c.
-    then-refuses (bisectOf c lo hi tol) _ (stops-refuses (bisectOf c lo hi tol) (bisect-stops c lo hi tol)) (λ b. tt)))
+    then-refuses (bisectOf (rowsOf c) lo hi tol) _ (stops-refuses (bisectOf (rowsOf c) lo hi tol) (bisect-stops (rowsOf c) lo hi tol)) (λ b. tt)))
 
 -- ---- the door
 

@@ -1,6 +1,6 @@
 -- Insertion by a walk that moves up what stands behind the place.
 use mathlib.Core.Path.{_≡_, refl, sym, ap, _∙_}
-use mathlib.Core.Bool.{Bool, true, false}
+use mathlib.Core.Bool.{Bool, true, false, cond}
 use mathlib.Core.List.{List, [], _∷_, _++_, append-assoc}
 use Prim.Native.Nat.{ℕ, suc, _+_, _<_, _≤_}
 use native.Mathlib.Omega.{arith}
@@ -8,7 +8,6 @@ use lib.Ieee.{Float, lt}
 use lib.ListN.{length, drop, length-append}
 use Rattle.refine.specs.declared.Root.{Root}
 use Rattle.refine.specs.declared.Root.the-variants.{At, Nothing}
-use Rattle.refine.specs.Refine.{orElse}
 use Rattle.isolate.specs.declared.Isolation.{Isolation}
 use Rattle.isolate.specs.declared.Slide.{Slide}
 use Rattle.isolate.specs.Answer.{rootsIn, holding, Kept}
@@ -25,7 +24,7 @@ unfolding slid
 slid-moving x [] = refl
 slid-moving x (y ∷ l) = ap (λ (t : List Float). x ∷ t) (slid-moving y l)
 
-one-slide : (t : Bool) (x y : Float) (l : List Float) → slid false x l ≡ inserted x l → slideIf t x y .stays ∷ slid (slideIf t x y .moving) (slideIf t x y .carried) l ≡ orElse t (x ∷ y ∷ l) (y ∷ inserted x l)
+one-slide : (t : Bool) (x y : Float) (l : List Float) → slid false x l ≡ inserted x l → slideIf t x y .stays ∷ slid (slideIf t x y .moving) (slideIf t x y .carried) l ≡ cond t (x ∷ y ∷ l) (y ∷ inserted x l)
 one-slide true x y l h = ap (λ (t : List Float). x ∷ t) (slid-moving y l)
 one-slide false x y l h = ap (λ (t : List Float). y ∷ t) h
 
@@ -34,7 +33,7 @@ unfolding slid inserted
 slid-inserted x [] = refl
 slid-inserted x (y ∷ l) = one-slide (lt x y) x y l (slid-inserted x l)
 
-one-longer : (t : Bool) (x y : Float) (l k : List Float) → length k ≡ suc (length l) → length (orElse t (x ∷ y ∷ l) (y ∷ k)) ≡ suc (suc (length l))
+one-longer : (t : Bool) (x y : Float) (l k : List Float) → length k ≡ suc (length l) → length (cond t (x ∷ y ∷ l) (y ∷ k)) ≡ suc (suc (length l))
 one-longer true x y l k h = refl
 one-longer false x y l k h = ap suc h
 

@@ -1,15 +1,14 @@
 -- The loops over brackets and over roots: what is left of the walk, onto what is found, gives the whole.
 use mathlib.Core.Path.{_≡_, refl, sym, ap, _∙_}
-use mathlib.Core.Bool.{Bool, true, false}
+use mathlib.Core.Bool.{Bool, true, false, cond}
 use mathlib.Core.List.{List, [], _∷_, _++_}
 use Prim.Native.Nat.{ℕ, zero, suc, _+_, _-_, _<_, _≤_}
 use native.Mathlib.Omega.{arith}
 use lib.Ieee.{Float, binary64, sub, lt}
 use lib.ListN.{length, drop, getD, length-append}
-use Rattle.ratio.specs.declared.Ratio.{Ratio}
 use Rattle.bisect.specs.declared.Bracket.{Bracket}
 use Rattle.refine.specs.declared.Root.{Root}
-use Rattle.refine.specs.Refine.{orElse, sizeOf}
+use Rattle.refine.specs.Refine.{sizeOf}
 use Rattle.refine.specs.Root.{rootOf}
 use Rattle.isolate.specs.declared.Isolation.{Isolation}
 use Rattle.isolate.specs.Answer.{rootsIn, holding, Kept}
@@ -21,17 +20,17 @@ use Rattle.isolate.proofs.Slides.{placed-length}
 
 -- ---- brackets
 
-pub record Gathering (p : List Ratio) (tol : Float) (l : List Bracket) (i : ℕ) (out : Isolation) : Type 0 where
+pub record Gathering (p : List Float) (tol : Float) (l : List Bracket) (i : ℕ) (out : Isolation) : Type 0 where
   pub is : out ≡ holding (rootsIn out)
   pub few : length (rootsIn out) ≤ i
   pub whole : rootsOnto p tol (drop i l) (rootsIn out) ≡ rootsOnto p tol l []
 
-pub gathering-none : (p : List Ratio) (tol : Float) (l : List Bracket) (out : Isolation) → out ≡ holding [] → Gathering p tol l 0 out
+pub gathering-none : (p : List Float) (tol : Float) (l : List Bracket) (out : Isolation) → out ≡ holding [] → Gathering p tol l 0 out
 gathering-none p tol l out e =
     let r : rootsIn out ≡ [] = roots-of out [] e in
     record { is = kept-of out [] e; few = omega (arith, ap length r); whole = ap (λ (t : List Float). rootsOnto p tol l t) r }
 
-module _ (p : List Ratio) (tol : Float) (l : List Bracket) (i : ℕ) (out : Isolation) (g : Gathering p tol l i out) where
+module _ (p : List Float) (tol : Float) (l : List Bracket) (i : ℕ) (out : Isolation) (g : Gathering p tol l i out) where
   pub gathering-more : (x : Bracket) → drop i l ≡ x ∷ drop (i + 1) l → (r : Root) → r ≡ rootOf p x tol → (next : Isolation) → next ≡ holding (placed r (rootsIn out)) → Gathering p tol l (i + 1) next
   unfolding rootsOnto
   gathering-more x d r e next n =
@@ -78,12 +77,12 @@ near-read r tol x d z k h e =
 
 module _ (tol x : Float) (l : List Float) where
   pub kept-near : nearLast tol x l ≡ true → l ≡ keptOf tol x l
-  kept-near h = ap (λ (t : Bool). orElse t l (l ++ (x ∷ []))) (sym h)
+  kept-near h = ap (λ (t : Bool). cond t l (l ++ (x ∷ []))) (sym h)
 
   pub kept-far : nearLast tol x l ≡ false → l ++ (x ∷ []) ≡ keptOf tol x l
-  kept-far h = ap (λ (t : Bool). orElse t l (l ++ (x ∷ []))) (sym h)
+  kept-far h = ap (λ (t : Bool). cond t l (l ++ (x ∷ []))) (sym h)
 
-kept-length : (t : Bool) (x : Float) (l : List Float) → length (orElse t l (l ++ (x ∷ []))) ≤ length l + 1
+kept-length : (t : Bool) (x : Float) (l : List Float) → length (cond t l (l ++ (x ∷ []))) ≤ length l + 1
 kept-length true x l = omega arith
 kept-length false x l = omega (arith, length-append l (x ∷ []))
 

@@ -23,6 +23,8 @@ use Rattle.chain.specs.Answer.{entriesOf, chainOf}
 use Rattle.chain.specs.Sequence.{sequenceOf}
 use Rattle.chain.proofs.CodeChain.{chain-got, chain-none}
 use Rattle.sturm.specs.Count.{inside, endsOf}
+use Rattle.sturm.specs.Value.{floatsOf}
+use Rattle.sturm.specs.Along.{rowsOf}
 use Rattle.bisect.specs.declared.Brackets.{Brackets}
 use Rattle.bisect.specs.Bracket.{Found, foundIn, itemsOf, bracketsOf}
 use Rattle.bisect.specs.Bisect.{bisectOf}
@@ -56,11 +58,11 @@ module _ (p : List Ratio) (lo hi tol : Float) (f : Answer) (e : f ≡ answerOf (
     unfolding isolateFrom
     chain-refused why oc = rw (list-got f (squareFree plain p 0) e o, chain-none c (sequenceOf (termsOf (f .poly))) why ec oc)
 
-    module _ (oc : c .outcome ≡ O.Done) (b : Brackets) (eb : b ≡ bracketsOf (bisectOf (entriesOf c) lo hi tol)) where
+    module _ (oc : c .outcome ≡ O.Done) (b : Brackets) (eb : b ≡ bracketsOf (bisectOf (rowsOf (entriesOf c)) lo hi tol)) where
       pub brackets-refused : (why : Reason) → b .outcome ≡ O.Refused why → refusedFor why ≡ isolationOf (isolateFrom p lo hi tol)
       unfolding isolateFrom
-      brackets-refused why ob = rw (list-got f (squareFree plain p 0) e o, chain-got c (sequenceOf (termsOf (f .poly))) ec oc, brackets-none b (bisectOf (entriesOf c) lo hi tol) why eb ob)
+      brackets-refused why ob = rw (list-got f (squareFree plain p 0) e o, chain-got c (sequenceOf (termsOf (f .poly))) ec oc, brackets-none b (bisectOf (rowsOf (entriesOf c)) lo hi tol) why eb ob)
 
-      pub isolated : b .outcome ≡ O.Done → holding (apartOnto tol (rootsOnto (termsOf (f .poly)) tol (itemsOf b) []) []) ≡ isolationOf (isolateFrom p lo hi tol)
+      pub isolated : b .outcome ≡ O.Done → holding (apartOnto tol (rootsOnto (floatsOf (termsOf (f .poly))) tol (itemsOf b) []) []) ≡ isolationOf (isolateFrom p lo hi tol)
       unfolding isolateFrom
-      isolated ob = rw (list-got f (squareFree plain p 0) e o, chain-got c (sequenceOf (termsOf (f .poly))) ec oc, brackets-got b (bisectOf (entriesOf c) lo hi tol) eb ob)
+      isolated ob = rw (list-got f (squareFree plain p 0) e o, chain-got c (sequenceOf (termsOf (f .poly))) ec oc, brackets-got b (bisectOf (rowsOf (entriesOf c)) lo hi tol) eb ob)

@@ -12,6 +12,8 @@ use Rattle.poly.specs.Door.{doorOf, openIf, both, entered}
 use Rattle.remainders.specs.Gcd.{squareFree}
 use Rattle.yun.specs.Got.{Got, got, thenGot, listFrom}
 use Rattle.chain.specs.Sequence.{sequenceOf}
+use Rattle.sturm.specs.Value.{floatsOf}
+use Rattle.sturm.specs.Along.{rowsOf}
 use Rattle.sturm.specs.Count.{inside}
 use Rattle.bisect.specs.Bisect.{bisectOf}
 use Rattle.isolate.specs.declared.Isolation.{Isolation}
@@ -30,8 +32,8 @@ unfoldable pub isolateFrom : List Ratio → Float → Float → Float → Got (L
 isolateFrom p lo hi tol =
     thenGot (listFrom (squareFree plain p 0)) (λ f.
     thenGot (sequenceOf f) (λ c.
-    thenGot (bisectOf c lo hi tol) (λ b.
-    got (apartOnto tol (rootsOnto f tol b []) []))))
+    thenGot (bisectOf (rowsOf c) lo hi tol) (λ b.
+    got (apartOnto tol (rootsOnto (floatsOf f) tol b []) []))))
 
 abbrev pub isolateFor : Poly → Float → Float → Float → Isolation
 isolateFor p lo hi tol = entered refusedFor (both (limitsOf lo hi tol) (doorOf p)) (isolationOf (isolateFrom (termsOf p) lo hi tol))

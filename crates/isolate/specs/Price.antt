@@ -18,9 +18,11 @@ use Rattle.poly.specs.Promise.{reading}
 use Rattle.remainders.specs.Gcd.{squareFree}
 use Rattle.yun.specs.Got.{listFrom}
 use Rattle.chain.specs.Sequence.{sequenceOf}
+use Rattle.sturm.specs.Value.{floatsOf}
+use Rattle.sturm.specs.Along.{rowsOf}
 use Rattle.bisect.specs.declared.Bracket.{Bracket}
 use Rattle.bisect.specs.Bisect.{bisectOf}
-use Rattle.bisect.specs.Price.{after, callsFor, evaluationsFor, mostCalls}
+use Rattle.bisect.specs.Price.{after, callsFor, evaluationsFor, mostCalls, mostEvaluations}
 use Rattle.refine.specs.Price.{rootWork, mostOfRoot}
 use Rattle.isolate.specs.declared.Quote.{Quote}
 use Rattle.isolate.specs.declared.Quote.the-variants.{Most, Refused}
@@ -29,18 +31,18 @@ use Rattle.isolate.specs.Isolate.{limitsOf}
 -- ---- the work, in the order of `isolateFrom`
 
 -- the values for the roots of the brackets
-unfoldable pub rootsWork : List Ratio → Float → List Bracket → ℕ
+unfoldable pub rootsWork : List Float → Float → List Bracket → ℕ
 rootsWork p tol [] = 0
 rootsWork p tol (x ∷ b) = rootWork p x tol + rootsWork p tol b
 
 unfoldable pub callsFrom : List Ratio → Float → Float → Float → ℕ
-callsFrom p lo hi tol = after (listFrom (squareFree plain p 0)) (λ f. after (sequenceOf f) (λ c. callsFor c lo hi tol))
+callsFrom p lo hi tol = after (listFrom (squareFree plain p 0)) (λ f. after (sequenceOf f) (λ c. callsFor (rowsOf c) lo hi tol))
 
 unfoldable pub evaluationsFrom : List Ratio → Float → Float → Float → ℕ
 evaluationsFrom p lo hi tol =
     after (listFrom (squareFree plain p 0)) (λ f.
     after (sequenceOf f) (λ c.
-    evaluationsFor c lo hi tol + after (bisectOf c lo hi tol) (λ b. rootsWork f tol b)))
+    evaluationsFor (rowsOf c) lo hi tol + after (bisectOf (rowsOf c) lo hi tol) (λ b. rootsWork (floatsOf f) tol b)))
 
 -- a shut door costs nothing
 abbrev pub callsIn : Poly → Float → Float → Float → ℕ
@@ -51,9 +53,9 @@ evaluationsIn p lo hi tol = entered (λ why. 0) (both (limitsOf lo hi tol) (door
 
 -- ---- the quote
 
--- each call takes the n + 1 entries of the chain at both ends and the first in the middle; the first at the ends of the whole; 64 brackets
+-- a chain of n + 1 entries, and 64 brackets
 abbrev pub evaluationsPrice : ℕ → ℕ
-evaluationsPrice n = mostCalls * (2 * (n + 1) + 1) + 2 + 64 * mostOfRoot
+evaluationsPrice n = mostEvaluations (n + 1) + 64 * mostOfRoot
 
 abbrev pub quoteIf : Bool → ℕ → ℕ → Quote
 quoteIf true calls evaluations = Most calls evaluations

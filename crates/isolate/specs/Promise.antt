@@ -15,6 +15,8 @@ use Rattle.poly.specs.Door.{doorOf}
 use Rattle.poly.specs.Promise.{reading}
 use Rattle.yun.specs.Got.{got}
 use Rattle.chain.specs.Promise.{IsChain}
+use Rattle.sturm.specs.Value.{floatsOf}
+use Rattle.sturm.specs.Along.{rowsOf}
 use Rattle.bisect.specs.declared.Bracket.{Bracket}
 use Rattle.bisect.specs.Bisect.{bisectOf}
 use Rattle.isolate.specs.declared.Isolation.{Isolation}
@@ -32,8 +34,8 @@ pub record Isolates (f : List Rat) (lo hi tol : Float) (l : List Float) : Type 0
   pub roots-kept : (IsZero f → ⊥) → (x : Rat) → IsRoot f x → IsRoot (rats part) x
   pub roots-only : (IsZero f → ⊥) → (x : Rat) → IsRoot (rats part) x → IsRoot f x
   pub is-chain : IsChain (rats part) (map rats chain)
-  pub found : bisectOf chain lo hi tol ≡ got brackets
-  pub roots : l ≡ apartOnto tol (rootsOnto part tol brackets []) []
+  pub found : bisectOf (rowsOf chain) lo hi tol ≡ got brackets
+  pub roots : l ≡ apartOnto tol (rootsOnto (floatsOf part) tol brackets []) []
 
 pub record IsolationPromise (p : Poly) (lo hi tol : Float) (r : Isolation) : Type 0 where
   pub isolates : outcomeStatus (r .outcome) ≡ 0 → Isolates (reading p) lo hi tol (rootsIn r)

@@ -10,6 +10,7 @@ ghost use mathlib.Core.List.{[], _∷_, _++_};
 ghost use Prim.Native.Nat.{_<_};
 ghost use lib.ListN.{length};
 ghost use Rattle.terms.specs.Poly.{termsOf};
+ghost use Rattle.sturm.specs.Value.{floatsOf};
 ghost use Rattle.bisect.specs.Bracket.{itemsOf};
 ghost use Rattle.isolate.specs.Answer.{rootsIn, holding, refusedFor, isolationOf, Kept};
 ghost use Rattle.isolate.specs.Sorted.{slideOf, inserted, placed, rootsOnto};
@@ -111,7 +112,8 @@ fn insert(found: Isolation, x: f64) -> Isolation
     while i < n {
         let y = found.roots[i];
         let s = move_up(moving, carried, y);
-        out = push(out, s.stays);
+        out.roots[i] = s.stays;
+        out.len = i + 1;
         moving = s.moving;
         carried = s.carried;
         i += 1;
@@ -138,18 +140,27 @@ fn count(b: Brackets) -> usize
 }
 
 // The roots in the brackets, rising.
-fn gather(p: Poly, b: Brackets, tol: f64) -> Isolation
-    ensures { λ r. ⌜ r ≡ holding (rootsOnto (termsOf p) tol (itemsOf b) []) ⌝ }
+fn roots_along(row: &[f64], b: Brackets, tol: f64) -> Isolation
+    ensures { λ r. ⌜ r ≡ holding (rootsOnto (now (row .entry)) tol (itemsOf b) []) ⌝ }
 {
     let n = count(b);
     let mut out = nothing();
     let mut i: usize = 0;
     while i < n {
         let x = b.items[i];
-        out = place(out, refine::root_in(p, x, tol));
+        out = place(out, refine::root_in(row, x, tol));
         i += 1;
     }
     out
+}
+
+// The same of a polynomial, whose floats are worked out once.
+fn gather(p: Poly, b: Brackets, tol: f64) -> Isolation
+    ensures { λ r. ⌜ r ≡ holding (rootsOnto (floatsOf (termsOf p)) tol (itemsOf b) []) ⌝ }
+{
+    let row = sturm::floats(p);
+    let values = row.values;
+    roots_along(&values[..row.len], b, tol)
 }
 
 // ---- roots that are too close
@@ -214,7 +225,7 @@ fn isolate_plain(p: Poly, lo: f64, hi: f64, tol: f64) -> Isolation
 pub fn limits(lo: f64, hi: f64, tol: f64) -> Gate
     ensures is { λ r. ⌜ r ≡ limitsOf lo hi tol ⌝ }
 {
-    if !refine::is_finite(tol) {
+    if !bridge::is_finite(tol) {
         Gate::Bad
     } else if tol > 0.0 {
         sturm::ends(lo, hi)
@@ -248,7 +259,7 @@ pub fn isolation_price(degree: u64) -> Quote
     } else {
         Quote::Most {
             calls: 6305,
-            evaluations: 12610 * degree + 31845,
+            evaluations: 3187 * degree + 19237,
         }
     }
 }

@@ -3,8 +3,7 @@ use mathlib.Core.Path.{_≡_, refl, sym, ap, ap₂, _∙_}
 use mathlib.Core.Bool.{Bool, true, false}
 use mathlib.Core.List.{List}
 use lib.Ieee.{Float, binary64, ofBits, sub, lt, le, eq}
-use Rattle.ratio.specs.declared.Ratio.{Ratio}
-use Rattle.sturm.specs.Value.{evalOf}
+use Rattle.sturm.specs.Value.{horner}
 use Rattle.bisect.specs.declared.Bracket.{Bracket}
 use Rattle.refine.specs.declared.Root.{Root}
 use Rattle.refine.specs.declared.Root.the-variants.{At, Nothing}
@@ -12,7 +11,7 @@ use Rattle.refine.specs.Refine.{sizeOf, narrow, refineOf, halvings}
 use Rattle.refine.specs.Root.{isNil, crossesOf, nearOf, chosen, rootOf}
 use Rattle.refine.proofs.Halvings.{else-first, else-second}
 
-module _ (p : List Ratio) (x : Bracket) (tol fa fb : Float) (ea : fa ≡ evalOf p (x .left)) (eb : fb ≡ evalOf p (x .right)) where
+module _ (p : List Float) (x : Bracket) (tol fa fb : Float) (ea : fa ≡ horner p (x .left)) (eb : fb ≡ horner p (x .right)) where
   values : chosen p x fa fb tol ≡ rootOf p x tol
   values = ap₂ (λ (a b : Float). chosen p x a b tol) ea eb
 

@@ -1,4 +1,3 @@
-pub mod Finite
 pub mod Halvings
 pub mod Chosen
 pub mod Prices

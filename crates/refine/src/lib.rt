@@ -1,9 +1,6 @@
 // The root in a bracket, refined by halving (document 01, module 6; `bisect_refine` of the original's sturm.rs and the choice in front of it).
 use bisect::Bracket;
-use terms::Poly;
 ghost use mathlib.Core.Path.{_≡_};
-ghost use lib.Ieee.Scale.{finite};
-ghost use Rattle.terms.specs.Poly.{termsOf};
 ghost use Rattle.refine.specs.Refine.{sizeOf, middleOf, halvedOf, refineOf, halvings};
 ghost use Rattle.refine.specs.Root.{crossesOf, nearOf, rootOf};
 
@@ -25,13 +22,6 @@ pub fn size(x: f64) -> f64
     ensures is { λ r. ⌜ r ≡ sizeOf x ⌝ }
 {
     if x < 0.0 { -x } else { x }
-}
-
-pub fn is_finite(v: f64) -> bool
-    ensures is { λ r. ⌜ r ≡ finite v ⌝ }
-{
-    let infinity: f64 = 1.0 / 0.0;
-    if v < infinity { v > -infinity } else { false }
 }
 
 // ---- refinement
@@ -62,8 +52,8 @@ fn halved(s: Side, mid: f64, fm: f64) -> Side
 }
 
 // At most 200 halvings.
-fn bisect_refine(p: Poly, x: Bracket, fa: f64, tol: f64) -> f64
-    ensures { λ r. ⌜ r ≡ refineOf halvings (termsOf p) (record { left = x .left; right = x .right; value = fa }) tol ⌝ }
+fn bisect_refine(row: &[f64], x: Bracket, fa: f64, tol: f64) -> f64
+    ensures { λ r. ⌜ r ≡ refineOf halvings (now (row .entry)) (record { left = x .left; right = x .right; value = fa }) tol ⌝ }
 {
     let mut now = Side {
         left: x.left,
@@ -76,7 +66,7 @@ fn bisect_refine(p: Poly, x: Bracket, fa: f64, tol: f64) -> f64
         if size(now.right - now.left) < tol {
             return mid;
         }
-        let fm = sturm::eval_f64(p, mid);
+        let fm = sturm::eval_f64(row, mid);
         if fm == 0.0 {
             return mid;
         }
@@ -91,9 +81,9 @@ fn bisect_refine(p: Poly, x: Bracket, fa: f64, tol: f64) -> f64
 fn crosses(fa: f64, fb: f64) -> bool
     ensures { λ r. ⌜ r ≡ crossesOf fa fb ⌝ }
 {
-    if !is_finite(fa) {
+    if !bridge::is_finite(fa) {
         false
-    } else if !is_finite(fb) {
+    } else if !bridge::is_finite(fb) {
         false
     } else {
         fa * fb < 0.0
@@ -103,15 +93,19 @@ fn crosses(fa: f64, fb: f64) -> bool
 fn near(v: f64, tol: f64) -> bool
     ensures { λ r. ⌜ r ≡ nearOf v tol ⌝ }
 {
-    if is_finite(v) { size(v) < tol } else { false }
+    if bridge::is_finite(v) {
+        size(v) < tol
+    } else {
+        false
+    }
 }
 
-// The root of p in a bracket, as the original chooses it.
-pub fn root_in(p: Poly, x: Bracket, tol: f64) -> Root
-    ensures is { λ r. ⌜ r ≡ rootOf (termsOf p) x tol ⌝ }
+// The root of a polynomial in a bracket, as the original chooses it; the polynomial is given by the floats of its coefficients.
+pub fn root_in(row: &[f64], x: Bracket, tol: f64) -> Root
+    ensures is { λ r. ⌜ r ≡ rootOf (now (row .entry)) x tol ⌝ }
 {
-    let fa = sturm::eval_f64(p, x.left);
-    let fb = sturm::eval_f64(p, x.right);
+    let fa = sturm::eval_f64(row, x.left);
+    let fb = sturm::eval_f64(row, x.right);
     if size(x.right - x.left) < tol {
         if size(fa) <= size(fb) {
             return Root::At(x.left);
@@ -125,7 +119,7 @@ pub fn root_in(p: Poly, x: Bracket, tol: f64) -> Root
         return Root::At(x.right);
     }
     if crosses(fa, fb) {
-        return Root::At(bisect_refine(p, x, fa, tol));
+        return Root::At(bisect_refine(row, x, fa, tol));
     }
     if near(fa, tol) {
         return Root::At(x.left);

@@ -21,7 +21,7 @@ use Rattle.chain.specs.Sequence.{sequenceOf}
 use Rattle.chain.proofs.CodeChain.{chain-got, chain-none}
 use Rattle.sturm.specs.declared.Count.{Count}
 use Rattle.sturm.specs.Changes.{changes}
-use Rattle.sturm.specs.Along.{signsAt}
+use Rattle.sturm.specs.Along.{rowsOf, signsAt}
 use Rattle.sturm.specs.Count.{inside, endsOf, noCount, countOf, countFrom}
 
 pub ends-left : (lo hi : Float) → inside lo ≡ false → Bad ≡ endsOf lo hi
@@ -40,6 +40,6 @@ module _ (p : List Ratio) (lo hi : Float) (f : Answer) (e : f ≡ answerOf (squa
     unfolding countFrom
     chain-refused why oc = rw (list-got f (squareFree plain p 0) e o, chain-none c (sequenceOf (termsOf (f .poly))) why ec oc)
 
-    pub count-done : c .outcome ≡ O.Done → (n : ℕ) → n ≡ changes (signsAt (entriesOf c) lo) - changes (signsAt (entriesOf c) hi) → _≡_ {A = Count} (record { outcome = O.Done; count = n }) (countOf (countFrom p lo hi))
+    pub count-done : c .outcome ≡ O.Done → (n : ℕ) → n ≡ changes (signsAt (rowsOf (entriesOf c)) lo) - changes (signsAt (rowsOf (entriesOf c)) hi) → _≡_ {A = Count} (record { outcome = O.Done; count = n }) (countOf (countFrom p lo hi))
     unfolding countFrom
     count-done oc n h = rw (list-got f (squareFree plain p 0) e o, chain-got c (sequenceOf (termsOf (f .poly))) ec oc, h)

@@ -4,10 +4,9 @@ use Prim.Native.Nat.{_+_, _-_, _≤_}
 use native.Mathlib.Omega.{arith}
 use lib.Ieee.{Float}
 use lib.ListN.{length, length-map}
-use Rattle.ratio.specs.declared.Ratio.{Ratio}
 use Rattle.sturm.specs.declared.Sign.{Sign}
 use Rattle.sturm.specs.declared.Sign.the-variants.{Zero, Plus, Minus, Nan}
-use Rattle.sturm.specs.Value.{evalOf}
+use Rattle.sturm.specs.Value.{horner}
 use Rattle.sturm.specs.Sign.{signOf}
 use Rattle.sturm.specs.Changes.{keep, kept, neighbours, changes}
 use Rattle.sturm.specs.Along.{signsAt}
@@ -30,6 +29,6 @@ neighbours-few [] = omega arith
 neighbours-few (s ∷ []) = omega arith
 neighbours-few (s ∷ t ∷ l) = omega (arith, differ-few s t, neighbours-few (t ∷ l))
 
-pub changes-few : (l : List (List Ratio)) (x : Float) → changes (signsAt l x) ≤ length l - 1
+pub changes-few : (l : List (List Float)) (x : Float) → changes (signsAt l x) ≤ length l - 1
 unfolding changes
-changes-few l x = omega (arith, neighbours-few (kept (signsAt l x)), kept-few (signsAt l x), length-map l (λ p. signOf (evalOf p x)))
+changes-few l x = omega (arith, neighbours-few (kept (signsAt l x)), kept-few (signsAt l x), length-map l (λ p. signOf (horner p x)))

@@ -1,4 +1,5 @@
 pub mod Values
+pub mod Laid
 pub mod Tests
 pub mod Signs
 pub mod Counts

@@ -5,7 +5,7 @@ use mathlib.Core.List.{List, [], _∷_}
 use Prim.Native.Nat.{ℕ, _-_, _≤_, _<_}
 use native.Mathlib.Omega.{arith}
 use lib.Ieee.{Float}
-use lib.ListN.{length}
+use lib.ListN.{length, length-map}
 use Rattle.algebra.specs.Textbook.{HasDegree, IsZero}
 use Rattle.ratio.specs.Refusal.{outcomeStatus}
 use Rattle.ratio.specs.declared.Ratio.{Ratio}
@@ -31,8 +31,9 @@ use Rattle.chain.specs.Sequence.{sequenceOf}
 use Rattle.chain.proofs.MeaningChain.{sequence-means}
 use Rattle.chain.proofs.Refusals.{Overflows, list-over, then-over, sequence-over}
 use Rattle.sturm.specs.declared.Count.{Count}
+use Rattle.sturm.specs.Value.{floatsOf}
 use Rattle.sturm.specs.Changes.{changes}
-use Rattle.sturm.specs.Along.{signsAt}
+use Rattle.sturm.specs.Along.{rowsOf, signsAt}
 use Rattle.sturm.specs.Count.{inside, endsOf, noCount, countOf, countFrom, countFor}
 use Rattle.sturm.specs.Promise.{Counts, CountPromise}
 use Rattle.sturm.proofs.Few.{changes-few}
@@ -58,10 +59,10 @@ record Counted (p : List Ratio) (lo hi : Float) (n : ℕ) : Type 0 where
   pub few : n ≤ length p - 1
 
 module _ (p : List Ratio) (c : Canonical p) (lo hi : Float) (n : ℕ) where
-  counted-chain : (f : List Ratio) → Part p f → (s : Got (List (List Ratio))) → sequenceOf f ≡ s → thenGot s (λ l. got (changes (signsAt l lo) - changes (signsAt l hi))) ≡ got n → Counted p lo hi n
+  counted-chain : (f : List Ratio) → Part p f → (s : Got (List (List Ratio))) → sequenceOf f ≡ s → thenGot s (λ l. got (changes (signsAt (rowsOf l) lo) - changes (signsAt (rowsOf l) hi))) ≡ got n → Counted p lo hi n
   counted-chain f t (got l) e g =
       let q = sequence-means f (t .canonical) l e in
-      let i : n ≡ changes (signsAt l lo) - changes (signsAt l hi) = cc in
+      let i : n ≡ changes (signsAt (rowsOf l) lo) - changes (signsAt (rowsOf l) hi) = cc in
       record {
         is = record {
           part = f;
@@ -72,11 +73,11 @@ module _ (p : List Ratio) (c : Canonical p) (lo hi : Float) (n : ℕ) where
           is-chain = q .is;
           number = i;
         };
-        few = omega (arith, i, changes-few l lo, q .few, t .short);
+        few = omega (arith, i, changes-few (rowsOf l) lo, length-map l floatsOf, q .few, t .short);
       }
   counted-chain f t (none why) e g = absurd (let z : _≡_ {A = ℕ} 0 1 = cc in omega arith)
 
-  counted-part : (r : Ran ℕ (List Ratio)) → squareFree plain p 0 ≡ r → thenGot (listFrom r) (λ f. thenGot (sequenceOf f) (λ l. got (changes (signsAt l lo) - changes (signsAt l hi)))) ≡ got n → Counted p lo hi n
+  counted-part : (r : Ran ℕ (List Ratio)) → squareFree plain p 0 ≡ r → thenGot (listFrom r) (λ f. thenGot (sequenceOf f) (λ l. got (changes (signsAt (rowsOf l) lo) - changes (signsAt (rowsOf l) hi)))) ≡ got n → Counted p lo hi n
   counted-part (fine k f) e g =
       let t = part-means p c k f e in
       counted-chain (trim f) (subst (Part p) (sym (t .canonical .trimmed)) t) (sequenceOf (trim f)) refl g

@@ -1,10 +1,13 @@
--- Document 01, module 6: the signs of the chain's values at a float.
+-- Document 01, module 6: the signs of the chain's values at a float. A row is one polynomial of the chain, its coefficients as floats.
 use mathlib.Core.List.{List, map}
 use lib.Ieee.{Float}
 use Rattle.ratio.specs.declared.Ratio.{Ratio}
 use Rattle.sturm.specs.declared.Sign.{Sign}
-use Rattle.sturm.specs.Value.{evalOf}
+use Rattle.sturm.specs.Value.{floatsOf, horner}
 use Rattle.sturm.specs.Sign.{signOf}
 
-abbrev pub signsAt : List (List Ratio) → Float → List Sign
-signsAt l x = map (λ p. signOf (evalOf p x)) l
+abbrev pub rowsOf : List (List Ratio) → List (List Float)
+rowsOf c = map floatsOf c
+
+abbrev pub signsAt : List (List Float) → Float → List Sign
+signsAt rows x = map (λ l. signOf (horner l x)) rows

@@ -18,7 +18,7 @@ use Rattle.chain.specs.Answer.{refusedFor, chainOf}
 use Rattle.chain.specs.Sequence.{sequenceOf}
 use Rattle.sturm.specs.declared.Count.{Count}
 use Rattle.sturm.specs.Changes.{changes}
-use Rattle.sturm.specs.Along.{signsAt}
+use Rattle.sturm.specs.Along.{rowsOf, signsAt}
 
 -- the chain of what came through the door
 abbrev pub sequenceFor : Poly → Chain
@@ -36,7 +36,7 @@ abbrev pub endsOf : Float → Float → Gate
 endsOf lo hi = openIf (inside lo && inside hi)
 
 unfoldable pub countFrom : List Ratio → Float → Float → Got ℕ
-countFrom p lo hi = thenGot (listFrom (squareFree plain p 0)) (λ f. thenGot (sequenceOf f) (λ c. got (changes (signsAt c lo) - changes (signsAt c hi))))
+countFrom p lo hi = thenGot (listFrom (squareFree plain p 0)) (λ f. thenGot (sequenceOf f) (λ c. got (changes (signsAt (rowsOf c) lo) - changes (signsAt (rowsOf c) hi))))
 
 abbrev pub noCount : Reason → Count
 noCount why = record { outcome = O.Refused why; count = 0 }

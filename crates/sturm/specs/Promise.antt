@@ -20,7 +20,7 @@ use Rattle.chain.specs.Answer.{entriesOf}
 use Rattle.chain.specs.Promise.{IsChain}
 use Rattle.sturm.specs.declared.Count.{Count}
 use Rattle.sturm.specs.Changes.{changes}
-use Rattle.sturm.specs.Along.{signsAt}
+use Rattle.sturm.specs.Along.{rowsOf, signsAt}
 use Rattle.sturm.specs.Count.{inside}
 
 pub record ChainPromise (p : Poly) (r : Chain) : Type 0 where
@@ -41,7 +41,7 @@ pub record Counts (f : List Rat) (lo hi : Float) (n : ℕ) : Type 0 where
   pub roots-kept : (IsZero f → ⊥) → (x : Rat) → IsRoot f x → IsRoot (rats part) x
   pub roots-only : (IsZero f → ⊥) → (x : Rat) → IsRoot (rats part) x → IsRoot f x
   pub is-chain : IsChain (rats part) (map rats chain)
-  pub number : n ≡ changes (signsAt chain lo) - changes (signsAt chain hi)
+  pub number : n ≡ changes (signsAt (rowsOf chain) lo) - changes (signsAt (rowsOf chain) hi)
 
 pub record CountPromise (p : Poly) (lo hi : Float) (r : Count) : Type 0 where
   pub counts : outcomeStatus (r .outcome) ≡ 0 → Counts (reading p) lo hi (r .count)

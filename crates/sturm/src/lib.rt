@@ -5,13 +5,19 @@ use ratio::Outcome;
 use ratio::Reason;
 use terms::Poly;
 ghost use mathlib.Core.Path.{_≡_};
-ghost use lib.ListN.{length};
+ghost use mathlib.Core.List.{List};
+ghost use Prim.Native.Nat.{_+_, _-_, _≤_};
+ghost use lib.Ieee.{Float};
+ghost use lib.ListN.{length, take, drop};
+ghost use lib.Seq.{paste};
+ghost use Rattle.terms.specs.declared.Poly.{Poly};
 ghost use Rattle.terms.specs.Poly.{termsOf};
 ghost use Rattle.chain.specs.Answer.{entriesOf};
-ghost use Rattle.sturm.specs.Value.{evalOf};
+ghost use Rattle.sturm.specs.Value.{floatsOf, horner};
 ghost use Rattle.sturm.specs.Sign.{signOf};
 ghost use Rattle.sturm.specs.Changes.{newer as newerOf, differ as differOf, changes};
-ghost use Rattle.sturm.specs.Along.{signsAt};
+ghost use Rattle.sturm.specs.Along.{rowsOf, signsAt};
+ghost use Rattle.sturm.specs.Rows.{rowOf, holding, rowsIn};
 ghost use Rattle.sturm.specs.Promise.{ChainPromise, CountPromise};
 ghost use Rattle.sturm.specs.Count.{sequenceFor, inside as insideOf, endsOf, noCount, countOf, countFrom, countFor};
 
@@ -23,6 +29,19 @@ pub enum Sign {
     Nan,
 }
 
+// A polynomial's coefficients as floats.
+pub struct Row {
+    pub values: [f64; 32],
+    pub len: usize,
+}
+
+// The rows of a chain, one behind the other, and how long each of them is.
+pub struct Rows {
+    pub values: [f64; 1024],
+    pub sizes: [usize; 32],
+    pub len: usize,
+}
+
 // How many roots were counted, or why there is no number.
 pub struct Count {
     pub outcome: Outcome,
@@ -31,21 +50,67 @@ pub struct Count {
 
 // ---- values
 
-// Horner from the top, two roundings a term; zero where there is no coefficient.
-pub fn eval_f64(p: Poly, x: f64) -> f64
-    ensures is { λ r. ⌜ r ≡ evalOf (termsOf p) x ⌝ }
+// The coefficients of p as floats, from place `at` on; the place behind them is handed back.
+fn lay(p: Poly, out: &mut [f64], at: usize) -> usize
+    requires { ⌜ at + 32 ≤ length (now out) ⌝ }
+    ensures { λ r. ⌜ (r ≡ at + length (floatsOf (termsOf p))) × (length (floatsOf (termsOf p)) ≤ 32) ⌝ }
+    ensures { λ _. ⌜ now (out .exit) ≡ paste (now (out .entry)) at (floatsOf (termsOf p)) (length (floatsOf (termsOf p))) ⌝ }
 {
     let n = p.top();
+    let mut i: usize = 0;
+    while i < n {
+        let c = p.coeffs[i];
+        out[at + i] = bridge::plain_to_f64(c);
+        i += 1;
+    }
+    at + n
+}
+
+// The coefficients of p as floats.
+pub fn floats(p: Poly) -> Row
+    ensures is { λ r. ⌜ r ≡ rowOf (floatsOf (termsOf p)) ⌝ }
+{
+    let mut values = [0.0; 32];
+    let len = lay(p, &mut values, 0);
+    Row { values, len }
+}
+
+// The coefficients of a chain as floats.
+pub fn chain_floats(c: Chain) -> Rows
+    ensures is { λ r. ⌜ r ≡ holding (rowsOf (entriesOf c)) ⌝ }
+{
+    let n = size(c.len);
+    let mut values = [0.0; 1024];
+    let mut sizes: [usize; 32] = [0; 32];
+    let mut at: usize = 0;
+    let mut i: usize = 0;
+    while i < n {
+        let p = c.polys[i];
+        let next = lay(p, &mut values, at);
+        sizes[i] = next - at;
+        at = next;
+        i += 1;
+    }
+    Rows {
+        values,
+        sizes,
+        len: n,
+    }
+}
+
+// Horner from the top, two roundings a term; zero where there is no coefficient.
+pub fn eval_f64(row: &[f64], x: f64) -> f64
+    ensures is { λ r. ⌜ r ≡ horner (now (row .entry)) x ⌝ }
+{
+    let n = row.len();
     if n == 0 {
         return 0.0;
     }
-    let top = p.coeffs[n - 1];
-    let mut acc = bridge::plain_to_f64(top);
     let mut i = n - 1;
+    let mut acc = row[i];
     while i > 0 {
         i -= 1;
-        let c = p.coeffs[i];
-        acc = acc * x + bridge::plain_to_f64(c);
+        acc = acc * x + row[i];
     }
     acc
 }
@@ -105,27 +170,36 @@ fn differ(last: Sign, s: Sign) -> usize
     }
 }
 
-// How many polynomials the chain has.
-fn size(c: Chain) -> usize
-    ensures { λ r. ⌜ r ≡ length (entriesOf c) ⌝ }
+// How many polynomials a chain has that says n.
+fn size(n: usize) -> usize
+    ensures { λ r. ⌜ ((l : List Poly) → length l ≡ 32 → r ≡ length (take n l)) ⌝ }
 {
-    let n = c.len;
     if n < 32 { n } else { 32 }
 }
 
-// The sign changes of the chain's values at x.
-pub fn sign_changes(c: Chain, x: f64) -> usize
-    ensures is { λ r. ⌜ r ≡ changes (signsAt (entriesOf c) x) ⌝ }
+// Where a row of n floats that begins at `at` ends, among all of them.
+fn until(at: usize, n: usize, all: usize) -> usize
+    requires { ⌜ at ≤ all ⌝ }
+    ensures { λ r. ⌜ (at ≤ r) × (r ≤ all) × ((l : List Float) → length l ≡ all → (take (r - at) (drop at l) ≡ take n (drop at l)) × (drop r l ≡ drop n (drop at l))) ⌝ }
 {
-    let n = size(c);
+    if n < all - at { at + n } else { all }
+}
+
+// The sign changes of the rows' values at x.
+pub fn sign_changes(values: &[f64], sizes: &[usize], x: f64) -> usize
+    ensures is { λ r. ⌜ r ≡ changes (signsAt (rowsIn (now (values .entry)) (now (sizes .entry))) x) ⌝ }
+{
+    let n = sizes.len();
     let mut last = Sign::Zero;
     let mut count: usize = 0;
+    let mut at: usize = 0;
     let mut i: usize = 0;
     while i < n {
-        let p = c.polys[i];
-        let s = sign_of(eval_f64(p, x));
+        let to = until(at, sizes[i], values.len());
+        let s = sign_of(eval_f64(&values[at..to], x));
         count += differ(last, s);
         last = newer(last, s);
+        at = to;
         i += 1;
     }
     count
@@ -177,6 +251,19 @@ fn no_count(why: Reason) -> Count
     }
 }
 
+// The sign changes along the chain that are lost between the ends, at least 0.
+fn lost(c: Chain, lo: f64, hi: f64) -> usize
+    ensures { λ r. ⌜ r ≡ changes (signsAt (rowsOf (entriesOf c)) lo) - changes (signsAt (rowsOf (entriesOf c)) hi) ⌝ }
+{
+    let t = chain_floats(c);
+    let values = t.values;
+    let sizes = t.sizes;
+    let n = t.len;
+    let va = sign_changes(&values, &sizes[..n], lo);
+    let vb = sign_changes(&values, &sizes[..n], hi);
+    terms::less(va, vb)
+}
+
 // The count of a polynomial that came through the door: its square-free part, the chain, the changes at either end.
 fn count_plain(p: Poly, lo: f64, hi: f64) -> Count
     ensures { λ r. ⌜ r ≡ countOf (countFrom (termsOf p) lo hi) ⌝ }
@@ -192,11 +279,9 @@ fn count_plain(p: Poly, lo: f64, hi: f64) -> Count
     if let Outcome::Refused(why) = oc {
         return no_count(why);
     }
-    let va = sign_changes(c, lo);
-    let vb = sign_changes(c, hi);
     Count {
         outcome: Outcome::Done,
-        count: terms::less(va, vb),
+        count: lost(c, lo, hi),
     }
 }
 

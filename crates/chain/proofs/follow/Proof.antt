@@ -1,5 +1,6 @@
 -- `chain::follow` meets its contract. The loop's invariant: what is left of the chain, behind what is found, gives the whole of it.
-use mathlib.Core.Path.{ap, _∙_}
+use mathlib.Core.Path.{refl, ap, _∙_}
+use Prim.Native.Nat.{_<_}
 use native.Mathlib.Omega.{arith}
 use lib.ListN.{length}
 use Rattle.terms.specs.Poly.{termsOf}
@@ -30,11 +31,20 @@ loop-holds c =
 length-requires : tie.Need-length-requires Inv-loop μ-loop
 length-requires c κs = tt
 
-push-requires-2 : tie.Need-push-requires-2 Inv-loop μ-loop
-push-requires-2 c κs =
+room : (c : tie.Then1 Inv-loop μ-loop) → c .before .before .loop .out .len < 32
+room c =
     let l = c .before .before in
     let s = l .before .before .before .args in
     going-room (termsOf (s .p)) (termsOf (s .d)) (l .loop .out) (termsOf (l .loop .a)) (l .loop .b) (l .loop .inv) (omega (arith, c .before .length .ensures))
+
+mul-b : tie.Need-mul-b Inv-loop μ-loop
+mul-b c = omega (arith, room c)
+
+element-set-from-b : tie.Need-element-set-from-b Inv-loop μ-loop
+element-set-from-b c = omega (arith, room c)
+
+add-out : tie.Need-add-out Inv-loop μ-loop
+add-out c = omega (arith, room c)
 
 next-requires : tie.Need-next-requires Inv-loop μ-loop
 next-requires c κs = tt
@@ -47,24 +57,24 @@ refused-requires c κs = tt
 
 returns : tie.Need-returns Inv-loop μ-loop
 returns c =
-    let l = c .before .before .before .before .before .before .before .before in
+    let l = c .before .before .before .before .before .before .before in
     let s = l .before .before .before .args in
-    c .refused .ensures ∙ going-refused (termsOf (s .p)) (termsOf (s .d)) (l .loop .out) (termsOf (l .loop .a)) (l .loop .b) (l .loop .inv) (omega (arith, c .before .before .before .before .before .before .before .length .ensures)) (c .before .before .before .before .next .result) (c .before .before .before .before .next .ensures) _ (c .before .before .o .given .1)
+    c .refused .ensures ∙ going-refused (termsOf (s .p)) (termsOf (s .d)) (l .loop .out) (termsOf (l .loop .a)) (l .loop .b) (l .loop .inv) (omega (arith, c .before .before .before .before .before .before .length .ensures)) (c .before .before .before .before .next .result) (c .before .before .before .before .next .ensures) _ (c .before .before .o .given .1)
 
 enum-told : tie.Need-enum-told Inv-loop μ-loop
 enum-told c = c .match .keys2
 
 loop-less : tie.Need-loop-less Inv-loop μ-loop
 loop-less c =
-    let l = c .before .before .before .before .before .before .before in
+    let l = c .before .before .before .before .before .before in
     let s = l .before .before .before .args in
-    going-short (termsOf (s .p)) (termsOf (s .d)) (l .loop .out) (termsOf (l .loop .a)) (l .loop .b) (l .loop .inv) (omega (arith, c .before .before .before .before .before .before .length .ensures)) (c .before .before .before .next .result) (c .before .before .before .next .ensures) (c .before .enum-told .given .1)
+    going-short (termsOf (s .p)) (termsOf (s .d)) (l .loop .out) (termsOf (l .loop .a)) (l .loop .b) (l .loop .inv) (omega (arith, c .before .before .before .before .before .length .ensures)) (c .before .before .before .next .result) (c .before .before .before .next .ensures) (c .before .enum-told .given .1)
 
 loop-again : tie.Need-loop-again Inv-loop μ-loop
 loop-again c =
-    let l = c .before .before .before .before .before .before .before in
+    let l = c .before .before .before .before .before .before in
     let s = l .before .before .before .args in
-    going-more (termsOf (s .p)) (termsOf (s .d)) (l .loop .out) (termsOf (l .loop .a)) (l .loop .b) (l .loop .inv) (omega (arith, c .before .before .before .before .before .before .length .ensures)) (c .before .before .before .next .result) (c .before .before .before .next .ensures) (c .before .before .before .before .push2 .result) (c .before .before .before .before .push2 .ensures) (c .before .enum-told .given .1)
+    going-more (termsOf (s .p)) (termsOf (s .d)) (l .loop .out) (termsOf (l .loop .a)) (l .loop .b) (l .loop .inv) (omega (arith, c .before .before .before .before .before .length .ensures)) (c .before .before .before .next .result) (c .before .before .before .next .ensures) _ refl (c .before .enum-told .given .1)
 
 returns-2 : tie.Need-returns-2 Inv-loop μ-loop
 returns-2 c =
@@ -82,7 +92,9 @@ follow-spec =
     push-requires
     loop-holds
     length-requires
-    push-requires-2
+    mul-b
+    element-set-from-b
+    add-out
     next-requires
     enum-known-o
     refused-requires

@@ -1,86 +1,40 @@
--- `isolate::gather` meets its contract. The loop's invariant: the brackets that are left, onto the roots found, give the whole.
-use mathlib.Core.Path.{_≡_}
-use Prim.Native.Nat.{_-_, _≤_}
-use native.Mathlib.Omega.{arith}
-use borrow.Author.Needs.{needs}
-use lib.ListN.{length, length-take, length-drop}
+-- `isolate::gather` meets its contract.
+use mathlib.Core.Path.{_≡_, sym, ap, _∙_}
+use mathlib.Core.List.{List, []}
+use Prim.Native.Nat.{_≤_}
+use lib.Ieee.{Float}
+use lib.ListN.{length}
+use lib.Seq.{length-take-le}
 use Rattle.terms.specs.Poly.{termsOf}
-use Rattle.terms.proofs.Lists.{long}
+use Rattle.sturm.specs.Value.{floatsOf}
+use Rattle.sturm.proofs.Laid.{row-fit, row-lent}
 use Rattle.bisect.specs.Bracket.{itemsOf}
-use Rattle.isolate.proofs.Hold.{next-of}
-use Rattle.isolate.proofs.Walks.{Gathering, gathering-none, gathering-more, gathering-end}
+use Rattle.isolate.specs.Answer.{holding}
+use Rattle.isolate.specs.Sorted.{rootsOnto}
 use Rattle.isolate.proofs.gather.Statement.{statement}
 use Rattle.isolate.proofs.gather.Tie as tie
 
-abbrev Inv-loop : tie.InvT-loop
-Inv-loop p tol b n out₀ i₀ out i = (n ≡ length (itemsOf b)) × (n ≤ 64) × (i ≤ n) × Gathering (termsOf p) tol (itemsOf b) i out
+floats-requires : tie.Need-floats-requires
+floats-requires c κs = tt
 
-abbrev μ-loop : tie.MeasureT-loop
-μ-loop p tol b n out₀ i₀ out i = n - i
+fit : (t : tie.After-floats) → t .floats .result .len ≤ length (t .floats .result .values)
+fit t = row-fit (t .floats .result) (floatsOf (termsOf (t .before .args .p))) (t .floats .ensures)
 
-count-requires : tie.Need-count-requires Inv-loop μ-loop
-count-requires c κs = tt
+array-share-prefix-values : tie.Need-array-share-prefix-values
+array-share-prefix-values c = fit (c .before)
 
-nothing-requires : tie.Need-nothing-requires Inv-loop μ-loop
-nothing-requires c κs = tt
+slice-aggregate-roots-along : tie.Need-slice-aggregate-roots-along
+slice-aggregate-roots-along c = let t = c .before .before in sym (length-take-le _ (t .floats .result .values) (fit t))
 
-loop-holds : tie.Need-loop-holds Inv-loop μ-loop
-loop-holds c =
-    let k = c .before in
-    let s = k .before .args in
-    let e : length (s .t2 .items) ≡ 64 = search (needs, long) in
-    (k .count .ensures, omega (arith, k .count .ensures, length-take (s .t2 .len) (s .t2 .items)), omega arith, gathering-none (termsOf (s .p)) (s .tol) (itemsOf (s .t2)) (c .nothing .result) (c .nothing .ensures))
+roots-along-requires : tie.Need-roots-along-requires
+roots-along-requires c κs = tt
 
-mul-x : tie.Need-mul-x Inv-loop μ-loop
-mul-x c = omega arith
-
-element-copy-out-x : tie.Need-element-copy-out-x Inv-loop μ-loop
-element-copy-out-x c = omega arith
-
-root-in-requires : tie.Need-root-in-requires Inv-loop μ-loop
-root-in-requires c κs = tt
-
-place-requires : tie.Need-place-requires Inv-loop μ-loop
-place-requires c κs =
-    let l = c .before .before .before in
-    let v = l .loop .inv in
-    (v .3 .is, omega (arith, v .3 .few, v .1))
-
-add-i : tie.Need-add-i Inv-loop μ-loop
-add-i c = omega arith
-
-loop-less : tie.Need-loop-less Inv-loop μ-loop
-loop-less c = omega arith
-
-loop-again : tie.Need-loop-again Inv-loop μ-loop
-loop-again c =
-    let r = c .before in
-    let l = r .before .before .before in
-    let s = l .before .before .before .args in
-    let v = l .loop .inv in
-    (v .0, v .1, omega arith, gathering-more (termsOf (s .p)) (s .tol) (itemsOf (s .t2)) (l .loop .i) (l .loop .out) (v .3) _ (next-of (s .t2 .len) (s .t2 .items) (l .loop .i) _ (omega (arith, v .0))) (r .root-in .result) (r .root-in .ensures) (c .place .result) (c .place .ensures))
-
-returns : tie.Need-returns Inv-loop μ-loop
+returns : tie.Need-returns
 returns c =
-    let l = c .before in
-    let s = l .before .before .before .args in
-    let v = l .loop .inv in
-    gathering-end (termsOf (s .p)) (s .tol) (itemsOf (s .t2)) (l .loop .i) (l .loop .out) (v .3) (omega (arith, v .0, length-drop (l .loop .i) (itemsOf (s .t2))))
+    let t = c .before .before .before in
+    let s = t .before .args in
+    c .roots-along .ensures
+    ∙ ap (λ (l : List Float). holding (rootsOnto l (s .tol) (itemsOf (s .b)) [])) (row-lent (t .floats .result) (floatsOf (termsOf (s .p))) (t .floats .ensures))
 
 pub gather-spec : {M : Type 1} → statement M
-gather-spec =
-    tie.close
-    (tie.spec
-    Inv-loop
-    μ-loop
-    count-requires
-    nothing-requires
-    loop-holds
-    mul-x
-    element-copy-out-x
-    root-in-requires
-    place-requires
-    add-i
-    loop-less
-    loop-again
-    returns)
+gather-spec = tie.close (tie.spec floats-requires array-share-prefix-values slice-aggregate-roots-along roots-along-requires returns)

@@ -3,6 +3,7 @@ use mathlib.Core.Path.{ap, _∙_}
 use mathlib.Core.List.{List, []}
 use lib.Ieee.{Float}
 use Rattle.terms.specs.Poly.{termsOf}
+use Rattle.sturm.specs.Value.{floatsOf}
 use Rattle.bisect.specs.Bracket.{itemsOf}
 use Rattle.isolate.specs.Answer.{holding}
 use Rattle.isolate.specs.Sorted.{rootsOnto}
@@ -86,7 +87,7 @@ dedup-requires c κs =
     let t = q .before .before in
     let f = t .before .before in
     let s = f .before .args in
-    kept-of (c .gather .result) (rootsOnto (termsOf (f .free-part .result .poly)) (s .tol) (itemsOf (b .bisect-isolate .result)) []) (c .gather .ensures)
+    kept-of (c .gather .result) (rootsOnto (floatsOf (termsOf (f .free-part .result .poly))) (s .tol) (itemsOf (b .bisect-isolate .result)) []) (c .gather .ensures)
 
 returns-4 : tie.Need-returns-4
 returns-4 c =
@@ -99,7 +100,7 @@ returns-4 c =
     let f = t .before .before in
     let s = f .before .args in
     c .dedup .ensures
-    ∙ ap (λ (l : List Float). holding (apartOnto (s .tol) l [])) (roots-of (g .gather .result) (rootsOnto (termsOf (f .free-part .result .poly)) (s .tol) (itemsOf (b .bisect-isolate .result)) []) (g .gather .ensures))
+    ∙ ap (λ (l : List Float). holding (apartOnto (s .tol) l [])) (roots-of (g .gather .result) (rootsOnto (floatsOf (termsOf (f .free-part .result .poly))) (s .tol) (itemsOf (b .bisect-isolate .result)) []) (g .gather .ensures))
     ∙ isolated (termsOf (s .p)) (s .lo) (s .hi) (s .tol) (f .free-part .result) (f .free-part .ensures) (t .enum-told .given .1) (q .sequence .result) (q .sequence .ensures) (u .enum-told2 .given .1) (b .bisect-isolate .result) (b .bisect-isolate .ensures) (w .enum-told3 .given .1)
 
 pub isolate-plain-spec : {M : Type 1} → statement M

@@ -2,7 +2,6 @@
 use mathlib.Core.Path.{_≡_, sym, ap, ap₂, _∙_}
 use mathlib.Core.Bool.{Bool}
 use lib.Ieee.{Float, lt, le}
-use Rattle.terms.specs.Poly.{termsOf}
 use Rattle.refine.specs.declared.Root.the-variants.{At}
 use Rattle.refine.specs.Refine.{narrow}
 use Rattle.refine.proofs.Chosen.{chosen-left, chosen-right, left-root, right-root, refined, left-near, right-near, no-root}
@@ -25,8 +24,8 @@ size-requires-3 : tie.Need-size-requires-3
 size-requires-3 c κs = tt
 
 -- the width, as the code has it
-width : (z : tie.After-size) → let s = z .before .before .before .before .args in narrow (s .x .left) (s .x .right) (s .tol) ≡ lt (z .size .result) (s .tol)
-width z = let s = z .before .before .before .before .args in ap (λ (w : Float). lt w (s .tol)) (sym (z .size .ensures))
+width : (z : tie.After-size) → let s = z .before .before .before .before .before .args in narrow (s .x .left) (s .x .right) (s .tol) ≡ lt (z .size .result) (s .tol)
+width z = let s = z .before .before .before .before .before .args in ap (λ (w : Float). lt w (s .tol)) (sym (z .size .ensures))
 
 returns : tie.Need-returns
 returns c =
@@ -36,8 +35,8 @@ returns c =
     let z = i .before in
     let g = z .before .before in
     let f = g .before in
-    let s = f .before .args in
-    chosen-left (termsOf (s .p)) (s .x) (s .tol) (f .eval-f64 .result) (g .eval-f642 .result) (f .eval-f64 .ensures) (g .eval-f642 .ensures) (width z ∙ i .if1 .taken) (ap₂ le (sym (j .size2 .ensures)) (sym (k .size3 .ensures)) ∙ c .if2 .taken)
+    let s = f .before .before .args in
+    chosen-left (s .row .now) (s .x) (s .tol) (f .eval-f64 .result) (g .eval-f642 .result) (f .eval-f64 .ensures) (g .eval-f642 .ensures) (width z ∙ i .if1 .taken) (ap₂ le (sym (j .size2 .ensures)) (sym (k .size3 .ensures)) ∙ c .if2 .taken)
 
 returns-2 : tie.Need-returns-2
 returns-2 c =
@@ -47,8 +46,8 @@ returns-2 c =
     let z = i .before in
     let g = z .before .before in
     let f = g .before in
-    let s = f .before .args in
-    chosen-right (termsOf (s .p)) (s .x) (s .tol) (f .eval-f64 .result) (g .eval-f642 .result) (f .eval-f64 .ensures) (g .eval-f642 .ensures) (width z ∙ i .if1 .taken) (ap₂ le (sym (j .size2 .ensures)) (sym (k .size3 .ensures)) ∙ c .if2 .left)
+    let s = f .before .before .args in
+    chosen-right (s .row .now) (s .x) (s .tol) (f .eval-f64 .result) (g .eval-f642 .result) (f .eval-f64 .ensures) (g .eval-f642 .ensures) (width z ∙ i .if1 .taken) (ap₂ le (sym (j .size2 .ensures)) (sym (k .size3 .ensures)) ∙ c .if2 .left)
 
 returns-3 : tie.Need-returns-3
 returns-3 c =
@@ -56,8 +55,8 @@ returns-3 c =
     let z = i .before in
     let g = z .before .before in
     let f = g .before in
-    let s = f .before .args in
-    left-root (termsOf (s .p)) (s .x) (s .tol) (f .eval-f64 .result) (g .eval-f642 .result) (f .eval-f64 .ensures) (g .eval-f642 .ensures) (width z ∙ i .if1 .left) (c .if3 .taken)
+    let s = f .before .before .args in
+    left-root (s .row .now) (s .x) (s .tol) (f .eval-f64 .result) (g .eval-f642 .result) (f .eval-f64 .ensures) (g .eval-f642 .ensures) (width z ∙ i .if1 .left) (c .if3 .taken)
 
 returns-4 : tie.Need-returns-4
 returns-4 c =
@@ -66,8 +65,8 @@ returns-4 c =
     let z = i .before in
     let g = z .before .before in
     let f = g .before in
-    let s = f .before .args in
-    right-root (termsOf (s .p)) (s .x) (s .tol) (f .eval-f64 .result) (g .eval-f642 .result) (f .eval-f64 .ensures) (g .eval-f642 .ensures) (width z ∙ i .if1 .left) (a .if3 .left) (c .if4 .taken)
+    let s = f .before .before .args in
+    right-root (s .row .now) (s .x) (s .tol) (f .eval-f64 .result) (g .eval-f642 .result) (f .eval-f64 .ensures) (g .eval-f642 .ensures) (width z ∙ i .if1 .left) (a .if3 .left) (c .if4 .taken)
 
 crosses-requires : tie.Need-crosses-requires
 crosses-requires c κs = tt
@@ -85,8 +84,8 @@ returns-5 c =
     let z = i .before in
     let g = z .before .before in
     let f = g .before in
-    let s = f .before .args in
-    ap At (c .bisect-refine .ensures) ∙ refined (termsOf (s .p)) (s .x) (s .tol) (f .eval-f64 .result) (g .eval-f642 .result) (f .eval-f64 .ensures) (g .eval-f642 .ensures) (width z ∙ i .if1 .left) (a .if3 .left) (b .if4 .left) (sym (q .crosses .ensures) ∙ t .if5 .taken)
+    let s = f .before .before .args in
+    ap At (c .bisect-refine .ensures) ∙ refined (s .row .now) (s .x) (s .tol) (f .eval-f64 .result) (g .eval-f642 .result) (f .eval-f64 .ensures) (g .eval-f642 .ensures) (width z ∙ i .if1 .left) (a .if3 .left) (b .if4 .left) (sym (q .crosses .ensures) ∙ t .if5 .taken)
 
 near-requires : tie.Need-near-requires
 near-requires c κs = tt
@@ -102,8 +101,8 @@ returns-6 c =
     let z = i .before in
     let g = z .before .before in
     let f = g .before in
-    let s = f .before .args in
-    left-near (termsOf (s .p)) (s .x) (s .tol) (f .eval-f64 .result) (g .eval-f642 .result) (f .eval-f64 .ensures) (g .eval-f642 .ensures) (width z ∙ i .if1 .left) (a .if3 .left) (b .if4 .left) (sym (q .crosses .ensures) ∙ t .if5 .left) (sym (n .near .ensures) ∙ c .if6 .taken)
+    let s = f .before .before .args in
+    left-near (s .row .now) (s .x) (s .tol) (f .eval-f64 .result) (g .eval-f642 .result) (f .eval-f64 .ensures) (g .eval-f642 .ensures) (width z ∙ i .if1 .left) (a .if3 .left) (b .if4 .left) (sym (q .crosses .ensures) ∙ t .if5 .left) (sym (n .near .ensures) ∙ c .if6 .taken)
 
 near-requires-2 : tie.Need-near-requires-2
 near-requires-2 c κs = tt
@@ -121,8 +120,8 @@ returns-7 c =
     let z = i .before in
     let g = z .before .before in
     let f = g .before in
-    let s = f .before .args in
-    right-near (termsOf (s .p)) (s .x) (s .tol) (f .eval-f64 .result) (g .eval-f642 .result) (f .eval-f64 .ensures) (g .eval-f642 .ensures) (width z ∙ i .if1 .left) (a .if3 .left) (b .if4 .left) (sym (q .crosses .ensures) ∙ t .if5 .left) (sym (n .near .ensures) ∙ e .if6 .left) (sym (m .near2 .ensures) ∙ c .if7 .taken)
+    let s = f .before .before .args in
+    right-near (s .row .now) (s .x) (s .tol) (f .eval-f64 .result) (g .eval-f642 .result) (f .eval-f64 .ensures) (g .eval-f642 .ensures) (width z ∙ i .if1 .left) (a .if3 .left) (b .if4 .left) (sym (q .crosses .ensures) ∙ t .if5 .left) (sym (n .near .ensures) ∙ e .if6 .left) (sym (m .near2 .ensures) ∙ c .if7 .taken)
 
 returns-8 : tie.Need-returns-8
 returns-8 c =
@@ -137,8 +136,8 @@ returns-8 c =
     let z = i .before in
     let g = z .before .before in
     let f = g .before in
-    let s = f .before .args in
-    no-root (termsOf (s .p)) (s .x) (s .tol) (f .eval-f64 .result) (g .eval-f642 .result) (f .eval-f64 .ensures) (g .eval-f642 .ensures) (width z ∙ i .if1 .left) (a .if3 .left) (b .if4 .left) (sym (q .crosses .ensures) ∙ t .if5 .left) (sym (n .near .ensures) ∙ e .if6 .left) (sym (m .near2 .ensures) ∙ c .if7 .left)
+    let s = f .before .before .args in
+    no-root (s .row .now) (s .x) (s .tol) (f .eval-f64 .result) (g .eval-f642 .result) (f .eval-f64 .ensures) (g .eval-f642 .ensures) (width z ∙ i .if1 .left) (a .if3 .left) (b .if4 .left) (sym (q .crosses .ensures) ∙ t .if5 .left) (sym (n .near .ensures) ∙ e .if6 .left) (sym (m .near2 .ensures) ∙ c .if7 .left)
 
 pub root-in-spec : {M : Type 1} → statement M
 root-in-spec =

@@ -1,6 +1,5 @@
 -- `sturm::count_plain` meets its contract.
-use mathlib.Core.Path.{ap₂, _∙_}
-use Prim.Native.Nat.{ℕ, _-_}
+use mathlib.Core.Path.{_∙_}
 use Rattle.terms.specs.Poly.{termsOf}
 use Rattle.sturm.proofs.Counts.{free-refused, chain-refused, count-done}
 use Rattle.sturm.proofs.count_plain.Statement.{statement}
@@ -46,25 +45,17 @@ returns-2 c =
 enum-told-2 : tie.Need-enum-told-2
 enum-told-2 c = c .match2 .keys2
 
-sign-changes-requires : tie.Need-sign-changes-requires
-sign-changes-requires c κs = tt
-
-sign-changes-requires-2 : tie.Need-sign-changes-requires-2
-sign-changes-requires-2 c κs = tt
-
-less-requires : tie.Need-less-requires
-less-requires c κs = tt
+lost-requires : tie.Need-lost-requires
+lost-requires c κs = tt
 
 returns-3 : tie.Need-returns-3
 returns-3 c =
-    let b = c .before in
-    let a = b .before in
-    let u = a .before in
+    let u = c .before in
     let q = u .before .before in
     let t = q .before .before in
     let f = t .before .before in
     let s = f .before .args in
-    count-done (termsOf (s .p)) (s .lo) (s .hi) (f .free-part .result) (f .free-part .ensures) (t .enum-told .given .1) (q .sequence .result) (q .sequence .ensures) (u .enum-told2 .given .1) (c .less .result) (c .less .ensures ∙ ap₂ (λ (x y : ℕ). x - y) (a .sign-changes .ensures) (b .sign-changes2 .ensures))
+    count-done (termsOf (s .p)) (s .lo) (s .hi) (f .free-part .result) (f .free-part .ensures) (t .enum-told .given .1) (q .sequence .result) (q .sequence .ensures) (u .enum-told2 .given .1) (c .lost .result) (c .lost .ensures)
 
 pub count-plain-spec : {M : Type 1} → statement M
 count-plain-spec =
@@ -80,7 +71,5 @@ count-plain-spec =
     no-count-requires-2
     returns-2
     enum-told-2
-    sign-changes-requires
-    sign-changes-requires-2
-    less-requires
+    lost-requires
     returns-3)
