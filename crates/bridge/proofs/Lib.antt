@@ -5,3 +5,6 @@ pub mod Search
 pub mod Whole
 pub mod Floats
 pub mod Finds
+pub mod Count
+pub mod Gap
+pub mod Snap

@@ -1,11 +1,12 @@
--- The float of a negative whole number is that of its size, negated.
-use mathlib.Core.Path.{_≡_, refl, sym, ap, _∙_}
+-- The float of a negative whole number is that of its size, negated. And which whole numbers are floats themselves.
+use mathlib.Core.Path.{_≡_, refl, sym, ap, _∙_, subst}
 use mathlib.Core.Bool.{Bool, true, false, cond, false≢true, true≢false}
-use Prim.Native.Nat.{ℕ, zero, suc, _+_, _*_, _^_}
+use Prim.Native.Nat.{ℕ, zero, suc, _+_, _*_, _^_, _≤_, _<_}
+use native.Mathlib.Omega.{arith}
 use lib.IntN.{ℤ, pos, negsuc, natAbs}
-use lib.Signed.{ltZ}
-use lib.Dec.{ltb}
-use lib.Ieee.{inf, Format, prec, emax, low, odd, units, neg, ofInt}
+use lib.Signed.{ltZ, leZ}
+use lib.Dec.{T, ltb, leb→le, lt→ltb}
+use lib.Ieee.{inf, Format, binary64, prec, emax, low, odd, units, neg, ofInt, inFloat}
 use lib.Ieee.Fits.{round-is}
 use Rattle.ratio.proofs.Words.{pos-neg}
 
@@ -14,7 +15,7 @@ unfolding neg odd
 neg-odd d zero k l = refl
 neg-odd d (suc q) k l = refl
 
-neg-units : (f : Format) (q k : ℕ) → neg (units f false q k) ≡ units f true q k
+pub neg-units : (f : Format) (q k : ℕ) → neg (units f false q k) ≡ units f true q k
 unfolding units neg
 neg-units f q k = go (ltb (q * 2 ^ k) (2 ^ (low f + suc (emax f))))
   where
@@ -33,3 +34,12 @@ below f (negsuc n) h = negated f n
 pub above : (f : Format) (n : ℤ) → ltZ n (pos 0) ≡ false → ofInt f (pos (natAbs n)) ≡ ofInt f n
 above f (pos n) h = refl
 above f (negsuc n) h = absurd (true≢false h)
+
+-- what `nearest_i64` tests: up to 2 ^ 53 either way a number can be cast
+pub exact-in : (z : ℤ) → leZ z (pos 9007199254740992) ≡ true → leZ (negsuc 9007199254740991) z ≡ true → T (inFloat binary64 z)
+unfolding inFloat
+exact-in (pos n) h k = subst T (sym h) tt
+exact-in (negsuc n) h k = lt→ltb n 9007199254740992 (next n (leb→le n 9007199254740991 (subst T (sym k) tt)))
+  where
+    next : (n : ℕ) → n ≤ 9007199254740991 → n < 9007199254740992
+    next n h = omega arith

@@ -80,7 +80,7 @@ half-up-whole n a d D e =
     let most : q < a + 1 = div-lt-iff-lt-mul p .1 (omega arith) in
     omega arith
 
-kept : (s : Bool) (a : ℕ) → a ≤ exact → saturated s a ≡ signed s a
+pub kept : (s : Bool) (a : ℕ) → a ≤ exact → saturated s a ≡ signed s a
 kept true a h = ap (λ (n : ℕ). negℤ (pos n)) (let i : min a 9223372036854775808 ≡ a = omega arith in i)
 kept false a h = ap pos (let i : min a 9223372036854775807 ≡ a = omega arith in i)
 

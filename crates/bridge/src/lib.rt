@@ -24,18 +24,31 @@ pub enum Rounded {
 
 // ---- whole numbers to floats
 
-// `n as f64`. Each half of n is a float exactly, and so is the upper one times 2^32: only the sum rounds.
+// The float of n. Each half of n is a float exactly, and so is the upper one times 2^32: only the sum rounds.
 fn nearest_u64(n: u64) -> f64
     ensures { λ r. ⌜ r ≡ Ieee.ofInt binary64 (pos n) ⌝ }
 {
     ((n >> 32) as f64) * 4294967296.0 + ((n & 0xffff_ffff) as f64)
 }
 
-fn nearest_i64(n: i64) -> f64
+// The float of the size, with the sign.
+fn nearest_signed(n: i64) -> f64
     ensures { λ r. ⌜ r ≡ Ieee.ofInt binary64 n ⌝ }
 {
     let size = nearest_u64(ratio::magnitude(n));
     if n < 0 { -size } else { size }
+}
+
+// `n as f64`. Up to 2^53 either way nothing is rounded, so that one conversion does.
+fn nearest_i64(n: i64) -> f64
+    ensures { λ r. ⌜ r ≡ Ieee.ofInt binary64 n ⌝ }
+{
+    if n <= 9007199254740992 {
+        if n >= -9007199254740992 {
+            return n as f64;
+        }
+    }
+    nearest_signed(n)
 }
 
 // ---- fractions to floats
@@ -90,8 +103,8 @@ fn round(v: f64) -> i64
 
 // ---- floats to fractions
 
-fn is_finite(v: f64) -> bool
-    ensures { λ r. ⌜ r ≡ finite v ⌝ }
+pub fn is_finite(v: f64) -> bool
+    ensures is { λ r. ⌜ r ≡ finite v ⌝ }
 {
     let infinity: f64 = 1.0 / 0.0;
     if v < infinity { v > -infinity } else { false }
@@ -102,6 +115,23 @@ fn is_small(x: f64) -> bool
     ensures { λ r. ⌜ r ≡ small x ⌝ }
 {
     if x < 1e-9 { x > -1e-9 } else { false }
+}
+
+// Whether x is close to the whole number that it rounds to. Below 2^52 the sum with 2^52 leaves no digit to a fraction, so that
+// it rounds to a whole number: to an even one at a half, which is close to none.
+fn is_near(x: f64) -> bool
+    ensures { λ r. ⌜ r ≡ small (Ieee.sub binary64 x (Ieee.ofInt binary64 (roundOf x))) ⌝ }
+{
+    if x > 0.0 {
+        if x < 4503599627370496.0 {
+            return is_small(x - ((x + 4503599627370496.0) - 4503599627370496.0));
+        }
+    } else if x < 0.0 {
+        if x > -4503599627370496.0 {
+            return is_small(x - ((x - 4503599627370496.0) + 4503599627370496.0));
+        }
+    }
+    is_small(x - nearest_i64(round(x)))
 }
 
 // `Ratio::new`, with -2^63 kept out.
@@ -115,7 +145,8 @@ fn fraction(numer: i64, denom: u64) -> Step
     Ratio::new(numer, denom as i64)
 }
 
-// The first denominator up to 1000 that comes close enough.
+// The first denominator up to 1000 that comes close enough. It is counted as a float too: that saves a conversion a round,
+// and keeps the compiler from working sixteen rounds at once, where most floats need one or a few.
 pub fn f64_to_ratio(v: f64) -> Step
     ensures is { λ r. ⌜ r ≡ toRatio v ⌝ }
     ensures promise { λ r. ⌜ Finds v r ⌝ }
@@ -124,13 +155,14 @@ pub fn f64_to_ratio(v: f64) -> Step
         return Step::Refused(Reason::NotPolynomial);
     }
     let mut denom = 1;
+    let mut denom_f = 1.0;
     while denom <= 1000 {
-        let numer_f = v * (denom as f64);
-        let numer = round(numer_f);
-        if is_small(numer_f - nearest_i64(numer)) {
-            return fraction(numer, denom);
+        let numer_f = v * denom_f;
+        if is_near(numer_f) {
+            return fraction(round(numer_f), denom);
         }
         denom += 1;
+        denom_f += 1.0;
     }
     Step::Refused(Reason::NotPolynomial)
 }

@@ -1,35 +1,24 @@
 -- `bridge::nearest_i64` meets its contract.
-use mathlib.Core.Path.{_≡_, sym, ap, _∙_}
-use Prim.Native.Nat.{ℕ}
-use lib.IntN.{ℤ, pos, natAbs}
-use lib.Signed.{ltZ}
-use lib.Ieee.{binary64, neg, ofInt}
+use mathlib.Core.Path.{ap, _∙_}
+use borrow.Author.Needs.{needs}
+use lib.Ieee.{binary64, ofInt}
 use mir.Facts.{toZ-ofZ}
-use Rattle.bridge.proofs.Signs.{below, above}
+use Rattle.bridge.proofs.Signs.{exact-in}
 use Rattle.bridge.proofs.nearest_i64.Statement.{statement}
 use Rattle.bridge.proofs.nearest_i64.Tie as tie
 
-magnitude-requires : tie.Need-magnitude-requires
-magnitude-requires c κs = tt
-
-nearest-u64-requires : tie.Need-nearest-u64-requires
-nearest-u64-requires c κs = tt
-
--- the float of the size
-sized : (c : tie.After-nearest-u64) → c .nearest-u64 .result ≡ ofInt binary64 (pos (natAbs (c .before .before .args .n)))
-sized c =
-    c .nearest-u64 .ensures
-    ∙ ap (λ (m : ℕ). ofInt binary64 (pos m)) (c .before .magnitude .ensures ∙ ap natAbs (toZ-ofZ (c .before .before .fits .n)))
+int-to-float-result : tie.Need-int-to-float-result
+int-to-float-result c = exact-in _ (c .before .before .if1 .taken) (c .before .if2 .taken)
 
 returns : tie.Need-returns
-returns c =
-    let s = c .before .before .before in
-    ap neg (sized (c .before)) ∙ below binary64 (s .args .n) (ap (λ (z : ℤ). ltZ z (pos 0)) (sym (toZ-ofZ (s .fits .n))) ∙ c .if1 .taken)
+returns c = search needs
+
+nearest-signed-requires : tie.Need-nearest-signed-requires
+nearest-signed-requires c κs = tt
 
 returns-2 : tie.Need-returns-2
-returns-2 c =
-    let s = c .before .before .before in
-    sized (c .before) ∙ above binary64 (s .args .n) (ap (λ (z : ℤ). ltZ z (pos 0)) (sym (toZ-ofZ (s .fits .n))) ∙ c .if1 .left)
+returns-2 c = c .nearest-signed .ensures ∙ ap (ofInt binary64) (toZ-ofZ (c .before .before .fits .n))
 
 pub nearest-i64-spec : {M : Type 1} → statement M
-nearest-i64-spec = tie.close (tie.spec magnitude-requires nearest-u64-requires returns returns-2)
+nearest-i64-spec =
+    tie.close (tie.spec int-to-float-result returns nearest-signed-requires returns-2)
