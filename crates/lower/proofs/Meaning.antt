@@ -1,6 +1,6 @@
 -- The promise, said of the model: value by value the stack is what the textbook reads.
 use mathlib.Core.Path.{_≡_, refl, sym, ap, ap₂, _∙_}
-use mathlib.Core.Bool.{Bool, true, false}
+use mathlib.Core.Bool.{Bool, true, false, cond}
 use mathlib.Core.List.{List, [], _∷_}
 use Prim.Native.Nat.{ℕ}
 use lib.Dec.{eqb}
@@ -29,7 +29,7 @@ use Rattle.poly.specs.Operations.{monomialOf}
 use Rattle.poly.proofs.Gives.{refused-gives, constant-gives, monomial-gives, add-gives, sub-gives, mul-gives, neg-gives, pow-gives}
 use Rattle.tokens.specs.declared.Token.{Token}
 use Rattle.tokens.specs.declared.Token.the-variants as T
-use Rattle.tokens.specs.Spelling.{choose, tokenOf}
+use Rattle.tokens.specs.Spelling.{tokenOf}
 use Rattle.tokens.specs.Words.{wordsOf}
 use Rattle.tokens.specs.Heights.{checkOf}
 use Rattle.lower.specs.declared.Whole.{Whole}
@@ -81,7 +81,7 @@ constant-fits : (s : Step) → Gives (rat (ratioOf s) ∷ []) (constantBy s)
 constant-fits (S.Done c) = constant-gives c
 constant-fits (S.Refused why) = refused-gives _ why 0
 
-variable-fits : (t : Bool) → Gives variable (choose t (monomialOf 1) (refusedWith NotPolynomial 0))
+variable-fits : (t : Bool) → Gives variable (cond t (monomialOf 1) (refusedWith NotPolynomial 0))
 variable-fits true = gives-as (monomialOf 1) power-one (monomial-gives 1)
 variable-fits false = refused-gives _ NotPolynomial 0
 

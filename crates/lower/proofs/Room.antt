@@ -1,6 +1,6 @@
 -- Once the tokens are checked the limit of 16 values changes nothing: the heights that the check counts are the lengths of the stack.
 use mathlib.Core.Path.{_≡_, refl, sym, ap, _∙_}
-use mathlib.Core.Bool.{Bool, true, false}
+use mathlib.Core.Bool.{Bool, true, false, cond}
 use mathlib.Core.List.{List, [], _∷_}
 use Prim.Native.Nat.{ℕ, _+_, _-_, _≤_}
 use native.Mathlib.Omega.{arith}
@@ -16,7 +16,7 @@ use Rattle.terms.specs.declared.Answer.{Answer}
 use Rattle.tokens.specs.declared.Height.{Height}
 use Rattle.tokens.specs.declared.Token.{Token}
 use Rattle.tokens.specs.declared.Token.the-variants as T
-use Rattle.tokens.specs.Spelling.{choose, tokenOf}
+use Rattle.tokens.specs.Spelling.{tokenOf}
 use Rattle.tokens.specs.Words.{wordsOf}
 use Rattle.tokens.specs.Heights.{takes, isOther, isBad, after, checkFrom, bare, checkOf}
 use Rattle.lower.specs.declared.Whole.{Whole}
@@ -31,20 +31,20 @@ use Rattle.lower.specs.Room.{bounded, boundedFrom}
 
 -- ---- what an answered check tells
 
-chosen : (b : Bool) (why : Reason) (o : Outcome) → choose b (O.Refused why) o ≡ O.Done → (b ≡ false) × (o ≡ O.Done)
+chosen : (b : Bool) (why : Reason) (o : Outcome) → cond b (O.Refused why) o ≡ O.Done → (b ≡ false) × (o ≡ O.Done)
 chosen true why o e = let z : _≡_ {A = ℕ} 0 1 = cc in absurd (omega arith)
 chosen false why o e = (refl, e)
 
-finish-deep : (p t d : Bool) (end : ℕ) → choose p (choose d (O.Refused R.TooLong) O.Done) (choose t (choose d (O.Refused R.TooLong) O.Done) (O.Refused (R.Malformed end))) ≡ O.Done → d ≡ false
+finish-deep : (p t d : Bool) (end : ℕ) → cond p (cond d (O.Refused R.TooLong) O.Done) (cond t (cond d (O.Refused R.TooLong) O.Done) (O.Refused (R.Malformed end))) ≡ O.Done → d ≡ false
 finish-deep true t d end e = chosen d R.TooLong O.Done e .0
 finish-deep false true d end e = chosen d R.TooLong O.Done e .0
 finish-deep false false d end e = let z : _≡_ {A = ℕ} 0 1 = cc in absurd (omega arith)
 
-deeper : (d x : Bool) → choose d true x ≡ false → d ≡ false
+deeper : (d x : Bool) → cond d true x ≡ false → d ≡ false
 deeper true x e = let z : _≡_ {A = ℕ} 0 1 = cc in absurd (omega arith)
 deeper false x e = refl
 
-after-by : (p o : Bool) (h a b : Height) → (a .deep ≡ false → h .deep ≡ false) → (b .deep ≡ false → h .deep ≡ false) → choose p h (choose o a b) .deep ≡ false → h .deep ≡ false
+after-by : (p o : Bool) (h a b : Height) → (a .deep ≡ false → h .deep ≡ false) → (b .deep ≡ false → h .deep ≡ false) → cond p h (cond o a b) .deep ≡ false → h .deep ≡ false
 after-by true o h a b f g e = e
 after-by false true h a b f g e = f e
 after-by false false h a b f g e = g e
@@ -61,7 +61,7 @@ check-deep end at h (w ∷ ws) e =
 
 -- ---- the stack's length
 
-data Sized (n : ℕ) : Left → Type 0 where
+pub data Sized (n : ℕ) : Left → Type 0 where
   sized : {l : List Poly} → length l ≡ n → Sized n (fine l)
   over : {why : Reason} → Sized n (stopped why)
 
@@ -85,7 +85,7 @@ raised-sized : (e : Whole) (l : List Poly) → Sized (length l - 1 + 1) (raised 
 raised-sized (W.Is n) l = one-sized (U.Pow n) l
 raised-sized W.Nothing l = over
 
-applied-sized : (wrt : ℕ) (t : Token) (l : List Poly) → Sized (length l - takes t + 1) (applied wrt t l)
+pub applied-sized : (wrt : ℕ) (t : Token) (l : List Poly) → Sized (length l - takes t + 1) (applied wrt t l)
 applied-sized wrt (T.Const x) l = pushed-sized (constantFrom x) l _ (omega arith)
 applied-sized wrt (T.Var i) l = pushed-sized (variableIf i wrt) l _ (omega arith)
 applied-sized wrt T.Add l = two-sized _ l
@@ -104,7 +104,7 @@ turn wrt n ws (fine l) (sized e) h f = rw (le-ltb 16 (length l) (omega arith)) (
 turn wrt n ws (stopped why) over h f = refl
 
 -- the height after a token that is neither `?` nor past one
-counted : (t : Token) (h : Height) → h .past ≡ false → isOther t ≡ false → h .deep ≡ false → after t h ≡ record { values = h .values - takes t + 1; deep = ltb 16 (h .values - takes t + 1); past = false }
+pub counted : (t : Token) (h : Height) → h .past ≡ false → isOther t ≡ false → h .deep ≡ false → after t h ≡ record { values = h .values - takes t + 1; deep = ltb 16 (h .values - takes t + 1); past = false }
 counted t h p o d = rw (p, o, d)
 
 next : (wrt end at : ℕ) (h : Height) (ws : List (List ℕ)) (l : List Poly) (t : Token) → isOther t ≡ false → h .past ≡ false → h .deep ≡ false → h .values ≡ length l → checkFrom end at (after t h) ws ≡ O.Done

@@ -1,4 +1,5 @@
 -- Document 01, module 7: what each token does to the values, the top one first. Each operation is module 3's.
+use mathlib.Core.Bool.{cond}
 use mathlib.Core.List.{List, [], _∷_}
 use Prim.Native.Nat.{ℕ}
 use lib.Dec.{eqb}
@@ -16,7 +17,6 @@ use Rattle.terms.specs.Answer.{refusedWith}
 use Rattle.poly.specs.Operations.{constantOf, monomialOf, addOf, subOf, mulOf, negOf, powOf}
 use Rattle.tokens.specs.declared.Token.{Token}
 use Rattle.tokens.specs.declared.Token.the-variants as T
-use Rattle.tokens.specs.Spelling.{choose}
 use Rattle.lower.specs.declared.Whole.{Whole}
 use Rattle.lower.specs.declared.Whole.the-variants as W
 use Rattle.lower.specs.declared.Binary.{Binary}
@@ -39,7 +39,7 @@ constantFrom x = constantBy (toRatio x)
 
 -- a variable other than the wanted one is 1
 abbrev pub variableIf : ℕ → ℕ → Answer
-variableIf i wrt = choose (eqb i wrt) (monomialOf 1) (refusedWith NotPolynomial 0)
+variableIf i wrt = cond (eqb i wrt) (monomialOf 1) (refusedWith NotPolynomial 0)
 
 abbrev pub combined : Binary → Poly → Poly → Answer
 combined B.Add a b = addOf a b

@@ -1,6 +1,9 @@
 -- `lower::constant` meets its contract.
 use mathlib.Core.Path.{sym, ap, _∙_}
+use Rattle.terms.specs.declared.Poly.{Poly}
+use Rattle.terms.specs.Answer.{doneWith}
 use Rattle.lower.specs.Stack.{constantBy}
+use Rattle.lower.proofs.Levels.{constant-found}
 use Rattle.lower.proofs.constant.Statement.{statement}
 use Rattle.lower.proofs.constant.Tie as tie
 
@@ -10,8 +13,11 @@ f64-to-ratio-requires c κs = tt
 enum-known-c : tie.Need-enum-known-c
 enum-known-c c = c .match .keys1
 
-constant-requires : tie.Need-constant-requires
-constant-requires c κs = tt
+level-requires : tie.Need-level-requires
+level-requires c κs = tt
+
+done-requires : tie.Need-done-requires
+done-requires c κs = tt
 
 enum-known-why : tie.Need-enum-known-why
 enum-known-why c = c .match .keys2
@@ -20,7 +26,11 @@ refused-requires : tie.Need-refused-requires
 refused-requires c κs = tt
 
 returns : tie.Need-returns
-returns c = c .constant .ensures .0 ∙ ap constantBy (sym (c .before .before .c .given .1) ∙ c .before .before .before .before .f64-to-ratio .ensures .0)
+returns c =
+    let k = c .before .before .before in
+    let f = k .before .before in
+    constant-found (k .c .given .0 .0) (f .before .args .x) (f .f64-to-ratio .result) (k .c .given .1) (f .f64-to-ratio .ensures .0) (f .f64-to-ratio .ensures .1) (c .done .result)
+    (c .done .ensures ∙ ap (λ (p : Poly). doneWith p 0) (c .before .level .ensures))
 
 returns-2 : tie.Need-returns-2
 returns-2 c = c .refused .ensures ∙ ap constantBy (sym (c .before .before .why .given .1) ∙ c .before .before .before .before .f64-to-ratio .ensures .0)
@@ -31,7 +41,8 @@ constant-spec =
     (tie.spec
     f64-to-ratio-requires
     enum-known-c
-    constant-requires
+    level-requires
+    done-requires
     enum-known-why
     refused-requires
     returns
