@@ -1,5 +1,5 @@
 -- The engine for programs in other languages: which operation a number names, what it answers, and which lent entries are written.
-use mathlib.Core.Bool.{Bool, true, false}
+use mathlib.Core.Bool.{Bool, true, false, cond}
 use mathlib.Core.List.{List, [], _∷_, map}
 use Prim.Native.Nat.{ℕ, _+_, _*_, _%_}
 use lib.Dec.{eqb, ltb}
@@ -54,10 +54,6 @@ abbrev pub toldStep : Step → Division
 toldStep (S.Done r) = tell O.Done (constantOf r) 0
 toldStep (S.Refused why) = noDivision why 0
 
-abbrev pub choose : Bool → Division → Division → Division
-choose true t f = t
-choose false t f = f
-
 -- a list of roots is told as its entries, and their number as the second
 abbrev pub toldRoots : Roots → Division
 toldRoots r = record {
@@ -70,19 +66,19 @@ toldRoots r = record {
 -- 9 the rational roots, n the budget; 17 the content, 18 the primitive part; another number is 5
 abbrev pub rootedOf : ℕ → Poly → ℕ → Division
 rootedOf op a n =
-    choose (eqb op 9) (toldRoots (rationalRootsOf a n))
-    (choose (eqb op 17) (toldStep (contentFor a))
-    (choose (eqb op 18) (toldAnswer (primitiveOf a))
+    cond (eqb op 9) (toldRoots (rationalRootsOf a n))
+    (cond (eqb op 17) (toldStep (contentFor a))
+    (cond (eqb op 18) (toldAnswer (primitiveOf a))
     (noDivision BadInput 0)))
 
 -- on one polynomial: 6 the negative, 7 the derivative, 8 the discriminant, 15 the power n, 16 the square-free part
 abbrev pub oneOf : ℕ → Poly → ℕ → Division
 oneOf op a n =
-    choose (eqb op 6) (toldAnswer (negOf a))
-    (choose (eqb op 7) (toldAnswer (diffOf a))
-    (choose (eqb op 8) (toldWhole (discriminantFor a))
-    (choose (eqb op 15) (toldAnswer (powOf a n))
-    (choose (eqb op 16) (toldAnswer (squareFreeFor a))
+    cond (eqb op 6) (toldAnswer (negOf a))
+    (cond (eqb op 7) (toldAnswer (diffOf a))
+    (cond (eqb op 8) (toldWhole (discriminantFor a))
+    (cond (eqb op 15) (toldAnswer (powOf a n))
+    (cond (eqb op 16) (toldAnswer (squareFreeFor a))
     (rootedOf op a n)))))
 
 -- behind the last factor stands the content; the steps are the number of factors
@@ -95,7 +91,7 @@ pieceTold f p = record { outcome = f .outcome; quotient = p .poly; rest = consta
 
 -- the factor at a place
 abbrev pub toldFactor : Factorization → ℕ → Division
-toldFactor f at = choose (ltb at 32) (choose (ltb at (f .len)) (pieceTold f (getD (f .pieces) at noPiece)) (behind f)) (behind f)
+toldFactor f at = cond (ltb at 32) (cond (ltb at (f .len)) (pieceTold f (getD (f .pieces) at noPiece)) (behind f)) (behind f)
 
 abbrev pub wholeFactors : Decomposition → Factorization
 wholeFactors d = record { outcome = d .outcome; content = zeroR; pieces = d .pieces; len = d .len }
@@ -111,21 +107,21 @@ placeOf b = natAbs (pointOf b .num)
 -- 10 the factors, n the budget, 11 the polynomial rebuilt, 19 the square-free decomposition; of a list of factors the one at a place
 abbrev pub factoredOf : ℕ → Poly → Poly → ℕ → Division
 factoredOf op a b n =
-    choose (eqb op 10) (toldFactor (factorFor a n) (placeOf b))
-    (choose (eqb op 11) (toldAnswer (rebuildFor a n))
-    (choose (eqb op 19) (toldFactor (wholeFactors (decompositionFor a)) (placeOf b))
+    cond (eqb op 10) (toldFactor (factorFor a n) (placeOf b))
+    (cond (eqb op 11) (toldAnswer (rebuildFor a n))
+    (cond (eqb op 19) (toldFactor (wholeFactors (decompositionFor a)) (placeOf b))
     (oneOf op a n)))
 
 -- on two: 0 the sum, 1 the difference, 2 the product, 3 the division, 4 the gcd, 5 the resultant, 12 the value at a point
 abbrev pub twoOf : ℕ → Poly → Poly → ℕ → Division
 twoOf op a b n =
-    choose (eqb op 0) (toldAnswer (addOf a b))
-    (choose (eqb op 1) (toldAnswer (subOf a b))
-    (choose (eqb op 2) (toldAnswer (mulOf a b))
-    (choose (eqb op 3) (divRemOf a b)
-    (choose (eqb op 4) (toldAnswer (gcdFor a b))
-    (choose (eqb op 5) (toldWhole (resultantFor a b))
-    (choose (eqb op 12) (toldStep (evalOf a (pointOf b)))
+    cond (eqb op 0) (toldAnswer (addOf a b))
+    (cond (eqb op 1) (toldAnswer (subOf a b))
+    (cond (eqb op 2) (toldAnswer (mulOf a b))
+    (cond (eqb op 3) (divRemOf a b)
+    (cond (eqb op 4) (toldAnswer (gcdFor a b))
+    (cond (eqb op 5) (toldWhole (resultantFor a b))
+    (cond (eqb op 12) (toldStep (evalOf a (pointOf b)))
     (factoredOf op a b n)))))))
 
 abbrev pub gateIf : Bool → Gate

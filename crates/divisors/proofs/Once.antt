@@ -1,6 +1,6 @@
 -- Among the divisors listed for a number that is not zero each divisor stands once, and nothing else.
 use mathlib.Core.Path.{_≡_, refl, sym, ap, ap₂, _∙_, subst}
-use mathlib.Core.Bool.{Bool, true, false, _&&_}
+use mathlib.Core.Bool.{Bool, true, false, _&&_, cond}
 use mathlib.Core.List.{[]}
 use Prim.Native.Nat.{ℕ, zero, suc, _+_, _*_, _/_, _%_, _<_, _≤_, _∣_}
 use native.Mathlib.Nat.{mul-comm, mul-le-mul-left, eq-of-mul-eq-mul-left, dvd-mul-left, dvd-mul-right, dvd-of-mod-eq-zero, mod-eq-zero-of-dvd, mul-div-cancel'}
@@ -11,7 +11,6 @@ use lib.Dec.{leb, eqb}
 use lib.IntN.{ℤ, natAbs}
 use Rattle.divisors.specs.Listing.{entries, others, isSmall, keep, listFrom, factorsOf}
 use Rattle.divisors.specs.Marks.{digit}
-use Rattle.divisors.specs.Walk.{pick}
 use Rattle.divisors.specs.Promise.{countOf}
 use Rattle.divisors.proofs.Words.{square-le}
 use Rattle.divisors.proofs.Count.{count-none, count-append, count-pair}
@@ -56,29 +55,29 @@ module _ (N h g i f : ℕ) (H : Factors N h g) (I : Factors N i f) where
   no-first : (i * i ≡ N → ⊥) → g ≡ i → ⊥
   no-first s e = s (square (omega (arith, cross-back e)))
 
-  hit-small : digit (eqb h i) + pick (eqb (i * i) N) 0 (digit (eqb h f)) ≡ digit (eqb i h)
+  hit-small : digit (eqb h i) + cond (eqb (i * i) N) 0 (digit (eqb h f)) ≡ digit (eqb i h)
   hit-small = by (ℕ-discrete (i * i) N)
     where
       turned : eqb h i ≡ eqb i h
       turned = eqb-iff h i i h sym sym
 
-      by : Dec (i * i ≡ N) → digit (eqb h i) + pick (eqb (i * i) N) 0 (digit (eqb h f)) ≡ digit (eqb i h)
-      by (yes s) = ap₂ (λ t u. digit t + pick u 0 (digit (eqb h f))) turned (eq-eqb (i * i) N s) ∙ omega arith
+      by : Dec (i * i ≡ N) → digit (eqb h i) + cond (eqb (i * i) N) 0 (digit (eqb h f)) ≡ digit (eqb i h)
+      by (yes s) = ap₂ (λ t u. digit t + cond u 0 (digit (eqb h f))) turned (eq-eqb (i * i) N s) ∙ omega arith
       by (no s) =
-          ap₂ (λ t u. digit t + pick u 0 (digit (eqb h f))) turned (ne-eqb (i * i) N s)
+          ap₂ (λ t u. digit t + cond u 0 (digit (eqb h f))) turned (ne-eqb (i * i) N s)
           ∙ ap (λ t. digit (eqb i h) + digit t) (ne-eqb h f (no-second s))
           ∙ omega arith
 
-  hit-large : digit (eqb g i) + pick (eqb (i * i) N) 0 (digit (eqb g f)) ≡ digit (eqb i h)
+  hit-large : digit (eqb g i) + cond (eqb (i * i) N) 0 (digit (eqb g f)) ≡ digit (eqb i h)
   hit-large = by (ℕ-discrete (i * i) N)
     where
-      by : Dec (i * i ≡ N) → digit (eqb g i) + pick (eqb (i * i) N) 0 (digit (eqb g f)) ≡ digit (eqb i h)
+      by : Dec (i * i ≡ N) → digit (eqb g i) + cond (eqb (i * i) N) 0 (digit (eqb g f)) ≡ digit (eqb i h)
       by (yes s) =
           let r : i ≡ f = partner N i i i f (I .some) s (I .product) refl in
-          ap₂ (λ t u. digit t + pick u 0 (digit (eqb g f))) (eqb-iff g i i h (λ e. r ∙ sym (cross-back e)) (λ e. same-partner (sym e) ∙ sym r)) (eq-eqb (i * i) N s)
+          ap₂ (λ t u. digit t + cond u 0 (digit (eqb g f))) (eqb-iff g i i h (λ e. r ∙ sym (cross-back e)) (λ e. same-partner (sym e) ∙ sym r)) (eq-eqb (i * i) N s)
           ∙ omega arith
       by (no s) =
-          ap₂ (λ t u. digit t + pick u 0 (digit (eqb g f))) (ne-eqb g i (no-first s)) (ne-eqb (i * i) N s)
+          ap₂ (λ t u. digit t + cond u 0 (digit (eqb g f))) (ne-eqb g i (no-first s)) (ne-eqb (i * i) N s)
           ∙ ap (λ t. 0 + digit t) (eqb-iff g f i h (λ e. sym (partner-same e)) (λ e. same-partner (sym e)))
           ∙ omega arith
 
@@ -109,12 +108,12 @@ factors-small N h g H = ap₂ _&&_ (le-leb (h * h) N (square-below N h g H)) (eq
 larger-above : (N h g : ℕ) → Factors N h g → 0 < g
 larger-above N h g H = omega arith
 
-count-others : (z : ℤ) (t : Bool) (f : ℕ) → 0 < f → countOf z (others t f) ≡ pick t 0 (digit (eqb (natAbs z) f))
+count-others : (z : ℤ) (t : Bool) (f : ℕ) → 0 < f → countOf z (others t f) ≡ cond t 0 (digit (eqb (natAbs z) f))
 count-others z true f p = count-none z
 count-others z false f p = count-pair z f [] p ∙ omega (arith, count-none z)
 
 -- how often z stands among the entries of a marked number
-count-entries : (z : ℤ) (N i : ℕ) → Factors N i (N / i) → countOf z (entries N i) ≡ digit (eqb (natAbs z) i) + pick (eqb (i * i) N) 0 (digit (eqb (natAbs z) (N / i)))
+count-entries : (z : ℤ) (N i : ℕ) → Factors N i (N / i) → countOf z (entries N i) ≡ digit (eqb (natAbs z) i) + cond (eqb (i * i) N) 0 (digit (eqb (natAbs z) (N / i)))
 count-entries z N i I =
     count-pair z i (others (eqb (i * i) N) (N / i)) (I .some)
     ∙ ap (λ c. digit (eqb (natAbs z) i) + c) (count-others z (eqb (i * i) N) (N / i) (larger-above N i (N / i) I))
@@ -140,7 +139,7 @@ module _ (N h : ℕ) (z : ℤ) (each : (i : ℕ) → 0 < i → countOf z (keep (
       by (no e) f = omega (arith, count-step k i p, f (omega arith) (omega arith) (omega arith), ap digit (ne-eqb i h e))
 
 -- what holds for the entries of each marked number holds for the entries listed
-module _ (N h g : ℕ) (z : ℤ) (H : Factors N h g) (hit : (i f : ℕ) → Factors N i f → digit (eqb (natAbs z) i) + pick (eqb (i * i) N) 0 (digit (eqb (natAbs z) f)) ≡ digit (eqb i h)) where
+module _ (N h g : ℕ) (z : ℤ) (H : Factors N h g) (hit : (i f : ℕ) → Factors N i f → digit (eqb (natAbs z) i) + cond (eqb (i * i) N) 0 (digit (eqb (natAbs z) f)) ≡ digit (eqb i h)) where
   each-hit : (i : ℕ) → 0 < i → countOf z (keep (isSmall N i) (entries N i)) ≡ digit (eqb i h)
   each-hit i p = by (isSmall N i) refl
     where
@@ -195,10 +194,10 @@ module _ (N : ℕ) (z : ℤ) (p : 0 < N) where
           let I = small-factors N i q e in
           let f = N / i in
           count-entries z N i I
-          ∙ ap₂ (λ t u. digit t + pick (eqb (i * i) N) 0 (digit u)) (ne-eqb (natAbs z) i (λ r. d (subst (λ m. natAbs z ∣ m) (ap (λ x. x * f) r ∙ I .product) (dvd-mul-right (natAbs z) f)))) (ne-eqb (natAbs z) f (λ r. d (subst (λ m. natAbs z ∣ m) (ap (λ x. i * x) r ∙ I .product) (dvd-mul-left (natAbs z) i))))
+          ∙ ap₂ (λ t u. digit t + cond (eqb (i * i) N) 0 (digit u)) (ne-eqb (natAbs z) i (λ r. d (subst (λ m. natAbs z ∣ m) (ap (λ x. x * f) r ∙ I .product) (dvd-mul-right (natAbs z) f)))) (ne-eqb (natAbs z) f (λ r. d (subst (λ m. natAbs z ∣ m) (ap (λ x. i * x) r ∙ I .product) (dvd-mul-left (natAbs z) i))))
           ∙ none (eqb (i * i) N)
         where
-          none : (t : Bool) → 0 + pick t 0 0 ≡ 0
+          none : (t : Bool) → 0 + cond t 0 0 ≡ 0
           none true = refl
           none false = refl
       by false e = count-none z

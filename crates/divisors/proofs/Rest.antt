@@ -1,6 +1,6 @@
 -- What is left of a listing at a place: its first entry and what is left behind that, up to the end.
 use mathlib.Core.Path.{_≡_, refl, sym, ap, ap₂, _∙_}
-use mathlib.Core.Bool.{Bool, true, false, _&&_}
+use mathlib.Core.Bool.{Bool, true, false, _&&_, cond}
 use mathlib.Core.List.{List, [], _∷_, _++_}
 use Prim.Native.Nat.{ℕ, zero, suc, _+_, _*_, _-_, _/_, _%_, _<_, _≤_}
 use native.Mathlib.Omega.{arith}
@@ -11,7 +11,7 @@ use lib.ListN.{drop}
 use Rattle.ratio.specs.Range.{limit}
 use Rattle.divisors.specs.declared.Entry.the-variants.{Is, Nothing}
 use Rattle.divisors.specs.Listing.{entries, others, keep}
-use Rattle.divisors.specs.Walk.{marked, rest, restFrom, markFrom, pick, entryOf, entryIf}
+use Rattle.divisors.specs.Walk.{marked, rest, restFrom, markFrom, entryOf, entryIf}
 use Rattle.divisors.proofs.Next.{inside}
 
 -- a list from a place on, by the entry at that place
@@ -54,7 +54,7 @@ module _ (size : ℕ) (marks : List ℕ) where
   from-end zero j e = refl
   from-end (suc k) j e = by (marked size marks j) e (from-end k (suc j))
     where
-      by : (t : Bool) → pick t j (markFrom size marks k (suc j)) ≡ j + suc k → (markFrom size marks k (suc j) ≡ suc j + k → restFrom size marks k (suc j) ≡ []) → keep t (entries size (j + 1)) ++ restFrom size marks k (suc j) ≡ []
+      by : (t : Bool) → cond t j (markFrom size marks k (suc j)) ≡ j + suc k → (markFrom size marks k (suc j) ≡ suc j + k → restFrom size marks k (suc j) ≡ []) → keep t (entries size (j + 1)) ++ restFrom size marks k (suc j) ≡ []
       by true f g = absurd (omega arith)
       by false f g = g (omega arith)
 
@@ -64,7 +64,7 @@ module _ (size : ℕ) (marks : List ℕ) where
   from-mark zero j h = absurd (omega arith)
   from-mark (suc k) j h = by (marked size marks j) h (from-mark k (suc j))
     where
-      by : (t : Bool) → (let m = pick t j (markFrom size marks k (suc j)) in m < j + suc k) → (let m = markFrom size marks k (suc j) in m < suc j + k → restFrom size marks k (suc j) ≡ entries size (m + 1) ++ restFrom size marks (suc j + k - (m + 1)) (m + 1)) → (let m = pick t j (markFrom size marks k (suc j)) in keep t (entries size (j + 1)) ++ restFrom size marks k (suc j) ≡ entries size (m + 1) ++ restFrom size marks (j + suc k - (m + 1)) (m + 1))
+      by : (t : Bool) → (let m = cond t j (markFrom size marks k (suc j)) in m < j + suc k) → (let m = markFrom size marks k (suc j) in m < suc j + k → restFrom size marks k (suc j) ≡ entries size (m + 1) ++ restFrom size marks (suc j + k - (m + 1)) (m + 1)) → (let m = cond t j (markFrom size marks k (suc j)) in keep t (entries size (j + 1)) ++ restFrom size marks k (suc j) ≡ entries size (m + 1) ++ restFrom size marks (j + suc k - (m + 1)) (m + 1))
       by true f g = ap₂ (λ a b. entries size (j + 1) ++ restFrom size marks a b) (let e : k ≡ j + suc k - (j + 1) = omega arith in e) (let e : suc j ≡ j + 1 = omega arith in e)
       by false f g = g (omega arith) ∙ ap (λ a. entries size (markFrom size marks k (suc j) + 1) ++ restFrom size marks a (markFrom size marks k (suc j) + 1)) (let e : suc j + k - (markFrom size marks k (suc j) + 1) ≡ j + suc k - (markFrom size marks k (suc j) + 1) = omega arith in e)
 

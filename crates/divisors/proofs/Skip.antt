@@ -1,6 +1,6 @@
 -- Passing over bits that are not set.
 use mathlib.Core.Path.{_≡_, refl, sym, ap, ap₂, _∙_, subst}
-use mathlib.Core.Bool.{Bool, true, false, _&&_}
+use mathlib.Core.Bool.{Bool, true, false, _&&_, cond}
 use mathlib.Core.List.{List, [], _∷_}
 use Prim.Native.Nat.{ℕ, zero, suc, _+_, _*_, _-_, _/_, _%_, _^_, _<_, _≤_}
 use native.Mathlib.Nat.{zero-div, div-one, div-le-self, div-mul-le-self, div-div-eq-div-mul, lt-of-le-of-lt, le-trans, le-of-eq, mul-assoc, mul-div-cancel, mul-le-mul-right, mul-mod-left, pow-suc}
@@ -13,7 +13,7 @@ use Rattle.ratio.proofs.Binary.{ends-odd, ends-back}
 use lib.Dec.{leb, eqb}
 use lib.ListN.{getD}
 use Rattle.divisors.specs.Marks.{bitAt}
-use Rattle.divisors.specs.Walk.{marked, markFrom, pick, Clear, ClearIn}
+use Rattle.divisors.specs.Walk.{marked, markFrom, Clear, ClearIn}
 use Rattle.divisors.proofs.Words.{square-le}
 
 and-false : (t : Bool) → t && false ≡ false
@@ -34,14 +34,14 @@ below size marks j t h e = rw (le-leb ((j + 1) * (j + 1)) size h) e
 pub mark-here : (size : ℕ) (marks : List ℕ) (k j : ℕ) → marked size marks j ≡ true → 0 < k → markFrom size marks k j ≡ j
 unfolding markFrom
 mark-here size marks zero j e h = absurd (omega arith)
-mark-here size marks (suc k) j e h = ap (λ t. pick t j (markFrom size marks k (suc j))) e
+mark-here size marks (suc k) j e h = ap (λ t. cond t j (markFrom size marks k (suc j))) e
 
 mark-skip-by : (size : ℕ) (marks : List ℕ) (r k j : ℕ) → ((b : ℕ) → b < r → marked size marks (j + b) ≡ false) → markFrom size marks (r + k) j ≡ markFrom size marks k (j + r)
 unfolding markFrom
 mark-skip-by size marks zero k j h = ap₂ (markFrom size marks) (let e : 0 + k ≡ k = omega arith in e) (let e : j ≡ j + 0 = omega arith in e)
 mark-skip-by size marks (suc r) k j h =
     ap (λ n. markFrom size marks n j) (let e : suc r + k ≡ suc (r + k) = omega arith in e)
-    ∙ ap (λ t. pick t j (markFrom size marks (r + k) (suc j))) (subst (λ n. marked size marks n ≡ false) (let e : j + 0 ≡ j = omega arith in e) (h 0 (omega arith)))
+    ∙ ap (λ t. cond t j (markFrom size marks (r + k) (suc j))) (subst (λ n. marked size marks n ≡ false) (let e : j + 0 ≡ j = omega arith in e) (h 0 (omega arith)))
     ∙ mark-skip-by size marks r k (suc j) (λ b g. subst (λ n. marked size marks n ≡ false) (let e : j + suc b ≡ suc j + b = omega arith in e) (h (suc b) (omega arith)))
     ∙ ap (markFrom size marks k) (let e : suc j + r ≡ j + suc r = omega arith in e)
 
@@ -60,7 +60,7 @@ unfolding markFrom
 mark-le size marks zero j = omega arith
 mark-le size marks (suc k) j = by (marked size marks j) (mark-le size marks k (suc j))
   where
-    by : (t : Bool) → markFrom size marks k (suc j) ≤ suc j + k → pick t j (markFrom size marks k (suc j)) ≤ j + suc k
+    by : (t : Bool) → markFrom size marks k (suc j) ≤ suc j + k → cond t j (markFrom size marks k (suc j)) ≤ j + suc k
     by true h = omega arith
     by false h = omega arith
 
@@ -69,7 +69,7 @@ pub mark-past : (size : ℕ) (marks : List ℕ) (k j : ℕ) → size < (j + 1) *
 unfolding markFrom
 mark-past size marks zero j h = omega arith
 mark-past size marks (suc k) j h =
-    ap (λ t. pick t j (markFrom size marks k (suc j))) (above size marks j h)
+    ap (λ t. cond t j (markFrom size marks k (suc j))) (above size marks j h)
     ∙ mark-past size marks k (suc j) (omega (arith, square-le (j + 1) (suc j + 1) (omega arith)))
     ∙ omega arith
 
@@ -79,7 +79,7 @@ unfolding markFrom
 mark-set size marks zero j h = absurd (omega arith)
 mark-set size marks (suc k) j h = by (marked size marks j) refl h (mark-set size marks k (suc j))
   where
-    by : (t : Bool) → marked size marks j ≡ t → pick t j (markFrom size marks k (suc j)) < j + suc k → (markFrom size marks k (suc j) < suc j + k → marked size marks (markFrom size marks k (suc j)) ≡ true) → marked size marks (pick t j (markFrom size marks k (suc j))) ≡ true
+    by : (t : Bool) → marked size marks j ≡ t → cond t j (markFrom size marks k (suc j)) < j + suc k → (markFrom size marks k (suc j) < suc j + k → marked size marks (markFrom size marks k (suc j)) ≡ true) → marked size marks (cond t j (markFrom size marks k (suc j))) ≡ true
     by true e f g = e
     by false e f g = g (omega arith)
 
@@ -88,7 +88,7 @@ unfolding markFrom
 mark-ge size marks zero j = omega arith
 mark-ge size marks (suc k) j = by (marked size marks j) (mark-ge size marks k (suc j))
   where
-    by : (t : Bool) → suc j ≤ markFrom size marks k (suc j) → j ≤ pick t j (markFrom size marks k (suc j))
+    by : (t : Bool) → suc j ≤ markFrom size marks k (suc j) → j ≤ cond t j (markFrom size marks k (suc j))
     by true h = omega arith
     by false h = omega arith
 

@@ -1,6 +1,6 @@
 -- Walking a listing: which entry comes next, and what is still to come. A place is 4 j + k: entry k of the number j + 1.
 use mathlib.Core.Path.{_≡_}
-use mathlib.Core.Bool.{Bool, true, false, _&&_}
+use mathlib.Core.Bool.{Bool, true, false, _&&_, cond}
 use mathlib.Core.List.{List, [], _∷_, _++_}
 use Prim.Native.Nat.{ℕ, zero, suc, _+_, _-_, _*_, _/_, _%_, _^_, _<_, _≤_}
 use lib.Dec.{leb, ltb, eqb}
@@ -39,14 +39,10 @@ rest (suc n) marks at =
     keep (isPlace (suc n) at)
     (keep (marked (suc n) marks (at / 4)) (drop (at % 4) (entries (suc n) (at / 4 + 1))) ++ restFrom (suc n) marks (65535 - at / 4) (at / 4 + 1))
 
-abbrev pub pick : Bool → ℕ → ℕ → ℕ
-pick true a b = a
-pick false a b = b
-
 -- the first bit that counts from j on, among k; j + k where there is none
 unfoldable pub markFrom : ℕ → List ℕ → ℕ → ℕ → ℕ
 markFrom size marks zero j = j
-markFrom size marks (suc k) j = pick (marked size marks j) j (markFrom size marks k (suc j))
+markFrom size marks (suc k) j = cond (marked size marks j) j (markFrom size marks k (suc j))
 
 -- no bit is set from j up to j + r
 pub record Clear (marks : List ℕ) (j r : ℕ) : Type 0 where

@@ -1,5 +1,5 @@
 -- Every factor that is handed back occurs at least once.
-use mathlib.Core.Bool.{Bool, true, false}
+use mathlib.Core.Bool.{Bool, true, false, cond}
 use mathlib.Core.List.{List, [], _∷_, _++_}
 use mathlib.Core.Path.{_≡_, subst}
 use Prim.Native.Nat.{ℕ, zero, suc, _≤_}
@@ -17,7 +17,7 @@ use Rattle.yun.specs.Got.{Got, got, none, thenGot, partsOf}
 use Rattle.yun.specs.Promise.{Every, Rising}
 use Rattle.yun.specs.Round.{piece}
 use Rattle.yun.proofs.MeaningPieces.{every-more}
-use Rattle.splitting.specs.Pair.{Halves, whole, both, ifWhole, pairOf}
+use Rattle.splitting.specs.Pair.{Halves, whole, both, pairOf}
 use Rattle.splitting.specs.Peel.{ifRoom, added, Peel, start, lineFrom, peelIf, peelOne, peeled, rootsIn}
 use Rattle.splitting.specs.Split.{Found, onRoots, onHalves, splitOnto, splitAll}
 
@@ -37,7 +37,7 @@ then-holds : {X Y : Type 0} (P : X → Type 0) (Q : Y → Type 0) (g : Got X) (k
 then-holds P Q (got x) k h f = f x h
 then-holds P Q (none why) k h f = tt
 
-if-holds : (b : Bool) (r s : Found) → Holds Occurs r → Holds Occurs s → Holds Occurs (ifWhole b r s)
+if-holds : (b : Bool) (r s : Found) → Holds Occurs r → Holds Occurs s → Holds Occurs (cond b r s)
 if-holds true r s h l = h
 if-holds false r s h l = l
 

@@ -1,5 +1,6 @@
 -- What `to_lowered` answers, leaves on the page and promises: behind open doors with and without room, and behind shut ones.
 use mathlib.Core.Path.{_≡_, refl, sym, ap, ap₂, subst, _∙_}
+use mathlib.Core.Bool.{cond}
 use mathlib.Core.List.{List, _++_}
 use Prim.Native.Nat.{ℕ, _≤_, _<_}
 use native.Mathlib.Omega.{arith}
@@ -17,7 +18,6 @@ use Rattle.poly.specs.Door.{openIf, doorOf, reasonOf}
 use Rattle.poly.proofs.Canonical.{open-if, both-open, opened}
 use Rattle.poly.proofs.Doors.{Shut, shut-entered, open-entered}
 use Rattle.poly.proofs.Gives.{number-some}
-use Rattle.tokens.specs.Spelling.{choose}
 use Rattle.text.specs.Page.{laid}
 use Rattle.horner.specs.declared.Written.{Written}
 use Rattle.horner.specs.Written.{textOf, doors, refusedFor, doneAfter, writtenOf, pageOf}
@@ -33,10 +33,10 @@ Lowered p wrt page r now = (r ≡ writtenOf p wrt page) × ((now ≡ pageOf p wr
 refused-no : {X : Type 0} (r : Written) (why : Reason) → r ≡ refusedFor why → outcomeStatus (r .outcome) ≡ 0 → X
 refused-no r why f z = absurd (omega (arith, number-some why, ap (λ (w : Written). outcomeStatus (w .outcome)) f))
 
-short : {X : Type 0} (a b : ℕ) (x y : X) → a < b → x ≡ choose (ltb a b) x y
+short : {X : Type 0} (a b : ℕ) (x y : X) → a < b → x ≡ cond (ltb a b) x y
 short a b x y h = rw (lt-ltb a b h)
 
-enough : {X : Type 0} (a b : ℕ) (x y : X) → b ≤ a → y ≡ choose (ltb a b) x y
+enough : {X : Type 0} (a b : ℕ) (x y : X) → b ≤ a → y ≡ cond (ltb a b) x y
 enough a b x y h = rw (le-ltb a b h)
 
 module _ (p : Poly) (wrt : ℕ) (page : List ℕ) (d : Gate) (e : d ≡ doors p wrt) where

@@ -1,6 +1,6 @@
 -- The heights of Horner's form: degree n takes 2 n + 1 values at once.
 use mathlib.Core.Path.{_≡_, refl, sym, ap, _∙_}
-use mathlib.Core.Bool.{Bool, true, false}
+use mathlib.Core.Bool.{Bool, true, false, cond}
 use mathlib.Core.List.{List, [], _∷_, _++_, append-assoc, append-nil}
 use Prim.Native.Nat.{ℕ, suc, _+_, _*_, _-_, _≤_, max}
 use native.Mathlib.Omega.{arith}
@@ -15,7 +15,7 @@ use Rattle.bridge.specs.Value.{valueOf}
 use Rattle.tokens.specs.declared.Height.{Height}
 use Rattle.tokens.specs.declared.Token.{Token}
 use Rattle.tokens.specs.declared.Token.the-variants as T
-use Rattle.tokens.specs.Spelling.{choose, tokenOf}
+use Rattle.tokens.specs.Spelling.{tokenOf}
 use Rattle.tokens.specs.Heights.{takes, isOther, isMalformed, checkFrom, bare}
 use Rattle.horner.specs.Text.{constant, variable}
 use Rattle.horner.proofs.Runs.{times, plus, hornerWords, token-times, token-plus}
@@ -23,9 +23,9 @@ use Rattle.horner.proofs.Runs.{times, plus, hornerWords, token-times, t
 -- ---- whether over 16 values ever stood there
 
 abbrev over : Bool → ℕ → Bool
-over d n = choose d true (ltb 16 n)
+over d n = cond d true (ltb 16 n)
 
-either : (m n : ℕ) (s t : Bool) → ltb 16 m ≡ s → ltb 16 n ≡ t → choose s true t ≡ ltb 16 (max m n)
+either : (m n : ℕ) (s t : Bool) → ltb 16 m ≡ s → ltb 16 n ≡ t → cond s true t ≡ ltb 16 (max m n)
 either m n true t e f = sym (lt-ltb 16 (max m n) (omega (arith, ltb-true 16 m e)))
 either m n false true e f = sym (lt-ltb 16 (max m n) (omega (arith, ltb-true 16 n f)))
 either m n false false e f = sym (le-ltb 16 (max m n) (omega (arith, ltb-false 16 m e, ltb-false 16 n f)))
@@ -79,8 +79,8 @@ module _ (wrt : ℕ) (tv : tokenOf (variable wrt) ≡ T.Var wrt) (tc : (c : Rati
       put end at (v + 2) _ plus ws r T.Add token-plus refl refl (v + 1) (omega arith) (omega arith) (λ at.
       ap (λ f. checkFrom end at (height (v + 1) f) ws) (flags d v n) ∙ next at))))))
 
-  pub check : (c : Ratio) (l : List Ratio) (end : ℕ) → checkFrom end 0 bare (hornerWords wrt c l) ≡ choose (ltb 8 (suc (length l))) (O.Refused R.TooLong) O.Done
+  pub check : (c : Ratio) (l : List Ratio) (end : ℕ) → checkFrom end 0 bare (hornerWords wrt c l) ≡ cond (ltb 8 (suc (length l))) (O.Refused R.TooLong) O.Done
   unfolding checkFrom
   check c l end =
       ap (checkFrom end 0 bare) (sym (append-nil (hornerWords wrt c l)))
-      ∙ heights c l end 0 0 false [] _ (λ at. ap (λ b. choose b (O.Refused R.TooLong) O.Done) (limit (length l)))
+      ∙ heights c l end 0 0 false [] _ (λ at. ap (λ b. cond b (O.Refused R.TooLong) O.Done) (limit (length l)))

@@ -1,6 +1,6 @@
 -- What is written in Horner form, read again.
 use mathlib.Core.Path.{_≡_, refl, sym, ap, _∙_}
-use mathlib.Core.Bool.{Bool, true, false}
+use mathlib.Core.Bool.{Bool, true, false, cond}
 use mathlib.Core.List.{List, [], _∷_, append-nil}
 use Prim.Native.Nat.{ℕ, zero, suc, _≤_, _<_}
 use native.Mathlib.Omega.{arith}
@@ -29,7 +29,6 @@ use Rattle.terms.specs.Poly.{termsOf, polyOf, dropTop, trim}
 use Rattle.terms.specs.Answer.{doneWith, refusedWith}
 use Rattle.terms.proofs.Lists.{terms-of-poly, trim-take}
 use Rattle.poly.proofs.Canonical.{Opened, opened-is}
-use Rattle.tokens.specs.Spelling.{choose}
 use Rattle.tokens.specs.Heights.{checkOf}
 use Rattle.lower.specs.Run.{andThen, runFrom, answered, unlessRefused, lowerOf}
 use Rattle.horner.specs.Text.{horner, loweredText}
@@ -43,7 +42,7 @@ use Rattle.horner.proofs.Words.{horner-words}
 
 -- ---- the answer in every case
 
-unless : (t : Bool) (r : Answer) → unlessRefused (choose t (O.Refused TooLong) O.Done) r ≡ choose t (refusedWith TooLong 0) r
+unless : (t : Bool) (r : Answer) → unlessRefused (cond t (O.Refused TooLong) O.Done) r ≡ cond t (refusedWith TooLong 0) r
 unless true r = refl
 unless false r = refl
 
@@ -79,7 +78,7 @@ module _ (wrt : ℕ) (h : wrt ≤ 255) where
       let tv = token-variable wrt h in
       rw (horner-words wrt h c l, check wrt tv token-constant c l (length (horner wrt c l)))
       (unless (ltb 8 (suc (length l))) _
-      ∙ ap (choose (ltb 8 (suc (length l))) (refusedWith TooLong 0))
+      ∙ ap (cond (ltb 8 (suc (length l))) (refusedWith TooLong 0))
       (ap (λ ws. answered (runFrom wrt ws [])) (sym (append-nil (hornerWords wrt c l))) ∙ ap answered (run wrt tv token-constant c l [] [] k) ∙ top wrt (through (c ∷ l))))
 
   pub reads : (l : List Ratio) → length l ≤ 32 → lowerOf wrt (loweredText wrt l) ≡ backOf l
@@ -135,7 +134,7 @@ only-through p (all cs) f e =
     λ i h. through-at l cs (sym f) i h ∙ ap (λ m. Done (getD m i zeroR)) k
 only-through p (lost why) f e = let z : O.Refused why ≡ O.Done = ap (λ r. r .outcome) e in let y : _≡_ {A = ℕ} 0 1 = cc in absurd (omega arith)
 
-only-back : (p : Poly) (t : Bool) → ltb 8 (length (termsOf p)) ≡ t → choose t (refusedWith TooLong 0) (B.answered (through (termsOf p))) ≡ doneWith p 0 → (length (termsOf p) ≤ 8) × Survive (termsOf p)
+only-back : (p : Poly) (t : Bool) → ltb 8 (length (termsOf p)) ≡ t → cond t (refusedWith TooLong 0) (B.answered (through (termsOf p))) ≡ doneWith p 0 → (length (termsOf p) ≤ 8) × Survive (termsOf p)
 only-back p true f e = let z : O.Refused TooLong ≡ O.Done = ap (λ r. r .outcome) e in let y : _≡_ {A = ℕ} 0 1 = cc in absurd (omega arith)
 only-back p false f e = (ltb-false 8 (length (termsOf p)) f, only-through p (through (termsOf p)) refl e)
 
@@ -155,5 +154,5 @@ module _ (p : Poly) (n : length (p .coeffs) ≡ 32) (o : Opened p) where
         same = λ k s. e ∙ back-same k s;
         only = λ r. only-back p (ltb 8 (length (termsOf p))) refl (sym e ∙ r);
         small = λ k s. e ∙ back-same k (λ i b. small-back (getD (termsOf p) i zeroR) (s i b));
-        deep = λ k. e ∙ ap (λ t. choose t (refusedWith TooLong 0) (B.answered (through (termsOf p)))) (lt-ltb 8 (length (termsOf p)) k);
+        deep = λ k. e ∙ ap (λ t. cond t (refusedWith TooLong 0) (B.answered (through (termsOf p)))) (lt-ltb 8 (length (termsOf p)) k);
       }

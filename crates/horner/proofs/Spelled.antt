@@ -1,6 +1,6 @@
 -- Numbers as they are spelt, read again: decimal digits and the 16 hex digits of a float's bits.
 use mathlib.Core.Path.{_≡_, refl, sym, ap, _∙_}
-use mathlib.Core.Bool.{Bool, true, false}
+use mathlib.Core.Bool.{Bool, true, false, cond}
 use mathlib.Core.List.{List, [], _∷_, _++_}
 use Prim.Native.Nat.{ℕ, _+_, _*_, _^_, _≤_, _<_}
 use native.Mathlib.Omega.{arith}
@@ -14,7 +14,7 @@ use Rattle.ratio.specs.declared.Ratio.{Ratio}
 use Rattle.bridge.specs.Value.{valueOf}
 use Rattle.tokens.specs.declared.Number.the-variants.{Is, Nothing}
 use Rattle.tokens.specs.declared.Token.the-variants as Tk
-use Rattle.tokens.specs.Spelling.{choose, digitOf, numberOf, bitsOf, constOf, varOf, tokenOf}
+use Rattle.tokens.specs.Spelling.{digitOf, numberOf, bitsOf, constOf, varOf, tokenOf}
 use Rattle.tokens.proofs.Tokens.{token-const, token-var}
 use Rattle.text.specs.Spell.{hexDigit, hexText, decimalOf, floatText}
 use Rattle.text.proofs.Decimal.{ten, Headed, decimal-head}
@@ -42,7 +42,7 @@ unfolding numberOf
 number-more base m n [] b d e h k = let z : m ≡ n = cc in rw (e, lt-ltb d base h, z)
 number-more base m n (x ∷ s) b d e h k = go (ltb (digitOf x) base) k (number-more base (m * base + digitOf x) n s b d e h)
   where
-    go : (t : Bool) → choose t (numberOf base (m * base + digitOf x) s) Nothing ≡ Is n → (numberOf base (m * base + digitOf x) s ≡ Is n → numberOf base (m * base + digitOf x) (s ++ (b ∷ [])) ≡ Is (n * base + d)) → choose t (numberOf base (m * base + digitOf x) (s ++ (b ∷ []))) Nothing ≡ Is (n * base + d)
+    go : (t : Bool) → cond t (numberOf base (m * base + digitOf x) s) Nothing ≡ Is n → (numberOf base (m * base + digitOf x) s ≡ Is n → numberOf base (m * base + digitOf x) (s ++ (b ∷ [])) ≡ Is (n * base + d)) → cond t (numberOf base (m * base + digitOf x) (s ++ (b ∷ []))) Nothing ≡ Is (n * base + d)
     go true k r = r k
     go false k r = let z : _≡_ {A = ℕ} 0 1 = cc in absurd (omega arith)
 

@@ -1,6 +1,6 @@
 -- The words of Horner's form as it is written.
 use mathlib.Core.Path.{_≡_, refl, ap, ap₂, _∙_}
-use mathlib.Core.Bool.{Bool, true, false}
+use mathlib.Core.Bool.{Bool, true, false, cond}
 use mathlib.Core.List.{List, [], _∷_, _++_}
 use Prim.Native.Nat.{ℕ, _+_, _^_, _≤_, _<_}
 use native.Mathlib.Omega.{arith}
@@ -10,7 +10,6 @@ use lib.Ieee.Bits.{toBits-lt}
 use lib.Ieee.Fits.{div-fits}
 use Rattle.ratio.specs.declared.Ratio.{Ratio}
 use Rattle.bridge.specs.Value.{valueOf}
-use Rattle.tokens.specs.Spelling.{choose}
 use Rattle.tokens.specs.Words.{onFirst, partsOf, wordsOf}
 use Rattle.tokens.proofs.Words.{parts-first}
 use Rattle.text.specs.Spell.{hexDigit, hexText, floatText}
@@ -23,7 +22,7 @@ use Rattle.horner.proofs.Runs.{hornerWords}
 
 -- ---- a text in two parts
 
-first-more : (t : Bool) (b : ℕ) (u : List ℕ) (us vs : List (List ℕ)) → choose t ([] ∷ (u ∷ us) ++ vs) (onFirst b ((u ∷ us) ++ vs)) ≡ choose t ([] ∷ u ∷ us) (onFirst b (u ∷ us)) ++ vs
+first-more : (t : Bool) (b : ℕ) (u : List ℕ) (us vs : List (List ℕ)) → cond t ([] ∷ (u ∷ us) ++ vs) (onFirst b ((u ∷ us) ++ vs)) ≡ cond t ([] ∷ u ∷ us) (onFirst b (u ∷ us)) ++ vs
 first-more true b u us vs = refl
 first-more false b u us vs = refl
 

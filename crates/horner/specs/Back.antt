@@ -1,4 +1,5 @@
 -- Document 01, modules 2 and 7: what a polynomial written in Horner form is when it is read again: each coefficient comes through the float bridge.
+use mathlib.Core.Bool.{cond}
 use mathlib.Core.List.{List, [], _∷_}
 use lib.Dec.{ltb}
 use lib.ListN.{length}
@@ -12,7 +13,6 @@ use Rattle.bridge.specs.Search.{toRatio}
 use Rattle.terms.specs.declared.Answer.{Answer}
 use Rattle.terms.specs.Poly.{polyOf, trim}
 use Rattle.terms.specs.Answer.{doneWith, refusedWith}
-use Rattle.tokens.specs.Spelling.{choose}
 
 -- the coefficients that came through, or the first refusal
 pub data Through : Type 0 where
@@ -38,4 +38,4 @@ answered (lost why) = refusedWith why 0
 
 -- degree n takes 2 n + 1 values at once: above degree 7 that is over 16
 unfoldable pub backOf : List Ratio → Answer
-backOf l = choose (ltb 8 (length l)) (refusedWith TooLong 0) (answered (through l))
+backOf l = cond (ltb 8 (length l)) (refusedWith TooLong 0) (answered (through l))

@@ -1,5 +1,5 @@
 -- Document 01, refusals and their order, for `to_lowered`: 5 for a variable over 255 or a polynomial that isn't canonical, 4 for one that is too long, 8 for a page shorter than the text. A refusal writes nothing.
-use mathlib.Core.Bool.{Bool}
+use mathlib.Core.Bool.{Bool, cond}
 use mathlib.Core.List.{List, _++_}
 use Prim.Native.Nat.{ℕ}
 use lib.Dec.{leb, ltb}
@@ -11,7 +11,6 @@ use Rattle.terms.specs.declared.Poly.{Poly}
 use Rattle.terms.specs.Poly.{termsOf}
 use Rattle.poly.specs.declared.Gate.{Gate}
 use Rattle.poly.specs.Door.{openIf, doorOf, both, entered}
-use Rattle.tokens.specs.Spelling.{choose}
 use Rattle.horner.specs.declared.Written.{Written}
 use Rattle.horner.specs.Text.{loweredText}
 
@@ -33,8 +32,8 @@ lacksRoom p wrt page = ltb (length page) (length (textOf p wrt))
 
 -- how many bytes are written
 abbrev pub writtenOf : Poly → ℕ → List ℕ → Written
-writtenOf p wrt page = entered refusedFor (doors p wrt) (choose (lacksRoom p wrt page) (refusedFor NoRoom) (doneAfter (length (textOf p wrt))))
+writtenOf p wrt page = entered refusedFor (doors p wrt) (cond (lacksRoom p wrt page) (refusedFor NoRoom) (doneAfter (length (textOf p wrt))))
 
 -- the text, then the page as it was
 abbrev pub pageOf : Poly → ℕ → List ℕ → List ℕ
-pageOf p wrt page = entered (λ why. page) (doors p wrt) (choose (lacksRoom p wrt page) page (textOf p wrt ++ drop (length (textOf p wrt)) page))
+pageOf p wrt page = entered (λ why. page) (doors p wrt) (cond (lacksRoom p wrt page) page (textOf p wrt ++ drop (length (textOf p wrt)) page))

@@ -1,6 +1,6 @@
 -- What a factor that was found is: it has degree at least 1, whole coefficients and no zero at the top, and dividing by it leaves no rest.
 use mathlib.Core.Path.{_≡_, refl, sym, ap, subst, _∙_}
-use mathlib.Core.Bool.{Bool, true, false, not}
+use mathlib.Core.Bool.{Bool, true, false, not, cond}
 use mathlib.Core.List.{List, [], _∷_}
 use Prim.Native.Nat.{ℕ, zero, suc, _+_, _-_, _≤_}
 use native.Mathlib.Omega.{arith}
@@ -27,7 +27,7 @@ use Rattle.kronecker.specs.declared.Verdict.the-variants.{Found, Next, N
 use Rattle.kronecker.specs.Points.{allWhole, surveyed}
 use Rattle.kronecker.specs.Combinations.{Gathering, stopped, made, gathered}
 use Rattle.kronecker.specs.Interpolation.{skip, onOutcome, repeated, partOf, addedPart, interpolatedOf}
-use Rattle.kronecker.specs.Split.{without, foundWith, isOver, splitIf, judgedBy, judged, triedOf, triedFrom, triedGathered, onValues, triedAt, triedDegrees, mostOf, trySplitOf}
+use Rattle.kronecker.specs.Split.{without, foundWith, isOver, judgedBy, judged, triedOf, triedFrom, triedGathered, onValues, triedAt, triedDegrees, mostOf, trySplitOf}
 
 -- the factor found, and the division that shows it
 pub record Cut (f : List Ratio) (s : Split) : Type 0 where
@@ -52,26 +52,26 @@ module _ (f : List Ratio) where
   unfolding Sound
   sound-none e = absurd (let z : _≡_ {A = ℕ} 0 1 = cc in omega arith)
 
-  sound-if : (b : Bool) (s t : Split) → Sound s → Sound t → Sound (splitIf b s t)
+  sound-if : (b : Bool) (s t : Split) → Sound s → Sound t → Sound (cond b s t)
   sound-if true s t p q = p
   sound-if false s t p q = q
 
   -- ---- one candidate, without zeros at the top
   module _ (c : List Ratio) (top : trim c ≡ c) (low : AllLowest c) where
-    rest-sound : (k : 2 ≤ length c) (w : allWhole c ≡ true) (o : dividedOf f c .outcome ≡ O.Done) (b : Bool) → ltb 0 (length (termsOf (dividedOf f c .rest))) ≡ b → Sound (splitIf b (without Next) (foundWith c))
+    rest-sound : (k : 2 ≤ length c) (w : allWhole c ≡ true) (o : dividedOf f c .outcome ≡ O.Done) (b : Bool) → ltb 0 (length (termsOf (dividedOf f c .rest))) ≡ b → Sound (cond b (without Next) (foundWith c))
     unfolding Sound
     rest-sound k w o true e = sound-next
     rest-sound k w o false e = λ p. record { candidate = c; is = ap polyOf top; trimmed = top; lowest = low; long = k; whole = w; answered = o; no-rest = ltb-false 0 (length (termsOf (dividedOf f c .rest))) e }
 
-    division-sound : (k : 2 ≤ length c) (w : allWhole c ≡ true) (o : Outcome) → dividedOf f c .outcome ≡ o → Sound (onOutcome o (without NoSplit) (splitIf (ltb 0 (length (termsOf (dividedOf f c .rest)))) (without Next) (foundWith c)))
+    division-sound : (k : 2 ≤ length c) (w : allWhole c ≡ true) (o : Outcome) → dividedOf f c .outcome ≡ o → Sound (onOutcome o (without NoSplit) (cond (ltb 0 (length (termsOf (dividedOf f c .rest)))) (without Next) (foundWith c)))
     division-sound k w O.Done e = rest-sound k w e (ltb 0 (length (termsOf (dividedOf f c .rest)))) refl
     division-sound k w (O.Refused why) e = sound-none
 
-    whole-sound : (k : 2 ≤ length c) (b : Bool) → allWhole c ≡ b → Sound (splitIf (not b) (without Next) (judgedBy (dividedOf f c) c))
+    whole-sound : (k : 2 ≤ length c) (b : Bool) → allWhole c ≡ b → Sound (cond (not b) (without Next) (judgedBy (dividedOf f c) c))
     whole-sound k true e = division-sound k e (dividedOf f c .outcome) refl
     whole-sound k false e = sound-next
 
-    long-sound : (b : Bool) → ltb (length c) 2 ≡ b → Sound (splitIf b (without Next) (splitIf (not (allWhole c)) (without Next) (judgedBy (dividedOf f c) c)))
+    long-sound : (b : Bool) → ltb (length c) 2 ≡ b → Sound (cond b (without Next) (cond (not (allWhole c)) (without Next) (judgedBy (dividedOf f c) c)))
     long-sound true e = sound-next
     long-sound false e = whole-sound (ltb-false (length c) 2 e) (allWhole c) refl
 
@@ -171,7 +171,7 @@ made-found : (c : List Ratio) → Made (foundWith c)
 unfolding Made
 made-found c = ap polyOf (sym (terms-of-poly (trim c)))
 
-made-if : (b : Bool) (s t : Split) → Made s → Made t → Made (splitIf b s t)
+made-if : (b : Bool) (s t : Split) → Made s → Made t → Made (cond b s t)
 made-if true s t p q = p
 made-if false s t p q = q
 

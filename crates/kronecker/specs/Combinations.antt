@@ -1,6 +1,6 @@
 -- Document 01, module 5, Kronecker: a divisor of each value, at most 100 combinations in listing order. If 100 is reached before the last point, none is tried.
 use mathlib.Core.Path.{_≡_}
-use mathlib.Core.Bool.{Bool, true, false}
+use mathlib.Core.Bool.{Bool, true, false, cond}
 use mathlib.Core.List.{List, [], _∷_, _++_, map}
 use Prim.Native.Nat.{ℕ, zero, suc, _≤_}
 use lib.Dec.{leb}
@@ -19,17 +19,13 @@ use Rattle.kronecker.specs.declared.Combinations.{Combinations}
 use Rattle.kronecker.specs.declared.Gathered.{Gathered}
 use Rattle.kronecker.specs.Points.{valueAt}
 
-abbrev pub ifFull : Bool → List (List Ratio) → List (List Ratio) → List (List Ratio)
-ifFull true a b = a
-ifFull false a b = b
-
 abbrev pub isFull : List (List Ratio) → Bool
 isFull l = leb 100 (length l)
 
 -- a combination goes on with each divisor, until there are 100
 unfoldable pub grownBy : List (List Ratio) → List Ratio → List ℤ → List (List Ratio)
 grownBy out c [] = out
-grownBy out c (d ∷ ds) = ifFull (isFull out) out (grownBy (out ++ ((c ++ (wholeR d ∷ [])) ∷ [])) c ds)
+grownBy out c (d ∷ ds) = cond (isFull out) out (grownBy (out ++ ((c ++ (wholeR d ∷ [])) ∷ [])) c ds)
 
 -- one combination after the other
 unfoldable pub grownAll : List (List Ratio) → List (List Ratio) → List ℤ → List (List Ratio)
@@ -38,7 +34,7 @@ grownAll out (c ∷ more) ds = grownAll (grownBy out c ds) more ds
 
 -- the combinations with a value for the next point; none where 100 were reached before it
 unfoldable pub grown : List (List Ratio) → List ℤ → List (List Ratio)
-grown l ds = ifFull (isFull l) [] (grownAll [] l ds)
+grown l ds = cond (isFull l) [] (grownAll [] l ds)
 
 pub data Gathering : Type 0 where
   stopped : Reason → Gathering

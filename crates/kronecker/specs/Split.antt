@@ -1,5 +1,5 @@
 -- Document 01, module 5, Kronecker (`kronecker_try_split`): each candidate of degree 1 or more with whole coefficients is divided by. A refusal 2 means no split; a listing's refusal is returned.
-use mathlib.Core.Bool.{Bool, true, false, not}
+use mathlib.Core.Bool.{Bool, true, false, not, cond}
 use mathlib.Core.List.{List, [], _∷_}
 use Prim.Native.Nat.{ℕ, zero, suc, _+_, _-_, _/_, min}
 use lib.Dec.{ltb}
@@ -29,20 +29,16 @@ isOver Next = false
 isOver NoSplit = true
 isOver (Refused why) = true
 
-abbrev pub splitIf : Bool → Split → Split → Split
-splitIf true a b = a
-splitIf false a b = b
-
 -- the first that is over counts
 abbrev pub orElse : Split → Split → Split
-orElse s t = splitIf (isOver (s .verdict)) s t
+orElse s t = cond (isOver (s .verdict)) s t
 
 -- a zero rest is a factor found; a refused division ends the search
 abbrev pub judgedBy : Division → List Ratio → Split
-judgedBy d c = onOutcome (d .outcome) (without NoSplit) (splitIf (ltb 0 (length (termsOf (d .rest)))) (without Next) (foundWith c))
+judgedBy d c = onOutcome (d .outcome) (without NoSplit) (cond (ltb 0 (length (termsOf (d .rest)))) (without Next) (foundWith c))
 
 unfoldable pub judged : List Ratio → List Ratio → Split
-judged f c = splitIf (ltb (length c) 2) (without Next) (splitIf (not (allWhole c)) (without Next) (judgedBy (dividedOf f c) c))
+judged f c = cond (ltb (length c) 2) (without Next) (cond (not (allWhole c)) (without Next) (judgedBy (dividedOf f c) c))
 
 -- the candidate of a combination; one that is refused is skipped
 unfoldable pub triedOf : List Ratio → ℕ → List Ratio → Split

@@ -9,7 +9,6 @@ use lib.Dec.{ltb, eqb}
 use lib.IntN.{ℤ, pos, negsuc}
 use lib.ListN.{length, drop, getD}
 use Rattle.ratio.specs.declared.Ratio.{Ratio}
-use Rattle.tokens.specs.Spelling.{choose}
 use Rattle.tokens.specs.Words.{partsOf, lengthTo, wordsOf}
 use Rattle.text.specs.Spell.{decimalIn, decimalOf, wholeText, isOne, ratioText, spaced, parted}
 
@@ -38,7 +37,7 @@ module _ (m : ℕ) where
   length-part [] r a = rw (eq-eqb m m refl)
   length-part (b ∷ w) r a = rw (ne-eqb b m (a .0), length-part w r (a .1))
 
-  marked : (x : ℕ) (l : List ℕ) (b : ℕ) (d : List ℕ) → (drop (lengthTo m l) l ≡ b ∷ d → b ≡ m) → (t : Bool) → eqb x m ≡ t → drop (choose t zero (suc (lengthTo m l))) (x ∷ l) ≡ b ∷ d → b ≡ m
+  marked : (x : ℕ) (l : List ℕ) (b : ℕ) (d : List ℕ) → (drop (lengthTo m l) l ≡ b ∷ d → b ≡ m) → (t : Bool) → eqb x m ≡ t → drop (cond t zero (suc (lengthTo m l))) (x ∷ l) ≡ b ∷ d → b ≡ m
   marked x l b d h true e q = let z : x ≡ b = cc in sym z ∙ eqb-true x m e
   marked x l b d h false e q = h q
 

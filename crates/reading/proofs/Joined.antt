@@ -1,13 +1,12 @@
 -- A text and its parts: they make it up, and they are found again in it.
 use mathlib.Core.Path.{_≡_, refl, sym, ap, _∙_}
-use mathlib.Core.Bool.{Bool, true, false}
+use mathlib.Core.Bool.{Bool, true, false, cond}
 use mathlib.Core.List.{List, [], _∷_}
 use Prim.Native.Nat.{ℕ, _<_}
 use native.Mathlib.Omega.{arith}
 use borrow.Author.Tests.{eqb-true}
 use lib.Dec.{eqb}
 use lib.ListN.{length}
-use Rattle.tokens.specs.Spelling.{choose}
 use Rattle.tokens.specs.Words.{onFirst, partsOf, wordsOf}
 use Rattle.tokens.proofs.Words.{parts-first}
 use Rattle.text.specs.Spell.{spaced, parted}
@@ -27,7 +26,7 @@ unfolding parted
 first-parted b [] h = absurd (omega arith)
 first-parted b (w ∷ ws) h = refl
 
-more-parted : (b : ℕ) (l : List ℕ) → parted (wordsOf l) ≡ l → (t : Bool) → eqb b 32 ≡ t → parted (choose t ([] ∷ wordsOf l) (onFirst b (wordsOf l))) ≡ b ∷ l
+more-parted : (b : ℕ) (l : List ℕ) → parted (wordsOf l) ≡ l → (t : Bool) → eqb b 32 ≡ t → parted (cond t ([] ∷ wordsOf l) (onFirst b (wordsOf l))) ≡ b ∷ l
 unfolding parted
 more-parted b l h true e = spaced-some (wordsOf l) (words-some l) ∙ ap (λ x. 32 ∷ x) h ∙ ap (λ x. x ∷ l) (sym (eqb-true b 32 e))
 more-parted b l h false e = first-parted b (wordsOf l) (words-some l) ∙ ap (λ x. b ∷ x) h

@@ -1,6 +1,6 @@
 -- Digits and their number: a number has one spelling without leading zeros, which is read back.
 use mathlib.Core.Path.{_≡_, refl, sym, ap, _∙_}
-use mathlib.Core.Bool.{Bool, true, false}
+use mathlib.Core.Bool.{Bool, true, false, cond}
 use mathlib.Core.List.{List, [], _∷_, _++_}
 use Prim.Native.Nat.{ℕ, _+_, _*_, _-_, _/_, _%_, _^_, _<_, _≤_}
 use native.Mathlib.Omega.{arith}
@@ -10,7 +10,7 @@ use lib.Dec.{ltb, eqb}
 use lib.ListN.{length, getD, length-append, List·getD-append}
 use Rattle.tokens.specs.declared.Number.{Number}
 use Rattle.tokens.specs.declared.Number.the-variants.{Is, Nothing}
-use Rattle.tokens.specs.Spelling.{choose, digitOf, numberOf, naturalOf}
+use Rattle.tokens.specs.Spelling.{digitOf, numberOf, naturalOf}
 use Rattle.tokens.proofs.Digits.{below}
 use Rattle.text.specs.Spell.{decimalOf}
 use Rattle.text.proofs.Decimal.{decimal-one, decimal-more, decimal-every, decimal-19}
@@ -21,7 +21,7 @@ digit-of : (d : ℕ) → d < 10 → digitOf (48 + d) ≡ d
 unfolding digitOf
 digit-of d h = rw (le-ltb (48 + d) 48 (omega arith), lt-ltb (48 + d) 58 (omega arith)) (omega arith)
 
-digit-cases : (b : ℕ) (t u v w : Bool) → ltb b 48 ≡ t → ltb b 97 ≡ v → choose t 16 (choose u (b - 48) (choose v 16 (choose w (b - 87) 16))) < 10 → b ≡ 48 + choose t 16 (choose u (b - 48) (choose v 16 (choose w (b - 87) 16)))
+digit-cases : (b : ℕ) (t u v w : Bool) → ltb b 48 ≡ t → ltb b 97 ≡ v → cond t 16 (cond u (b - 48) (cond v 16 (cond w (b - 87) 16))) < 10 → b ≡ 48 + cond t 16 (cond u (b - 48) (cond v 16 (cond w (b - 87) 16)))
 digit-cases b true u v w e f h = absurd (omega arith)
 digit-cases b false true v w e f h = omega (arith, ltb-false b 48 e)
 digit-cases b false false true w e f h = absurd (omega arith)
@@ -35,10 +35,10 @@ digit-is b h = digit-cases b (ltb b 48) (ltb b 58) (ltb b 97) (ltb b 103) refl r
 -- ---- a digit more at the end
 
 abbrev grown : Number → ℕ → Number
-grown (Is v) b = choose (ltb (digitOf b) 10) (Is (v * 10 + digitOf b)) Nothing
+grown (Is v) b = cond (ltb (digitOf b) 10) (Is (v * 10 + digitOf b)) Nothing
 grown Nothing b = Nothing
 
-grown-chosen : (t : Bool) (x y : Number) (b : ℕ) → x ≡ grown y b → choose t x Nothing ≡ grown (choose t y Nothing) b
+grown-chosen : (t : Bool) (x y : Number) (b : ℕ) → x ≡ grown y b → cond t x Nothing ≡ grown (cond t y Nothing) b
 grown-chosen true x y b h = h
 grown-chosen false x y b h = refl
 
@@ -87,7 +87,7 @@ record Digits (l : List ℕ) (n : ℕ) : Type 0 where
   pub few : length l ≤ 19
   pub head : 1 < length l → getD l 0 0 ≡ 48 → ⊥
 
-digits-chosen : (a b : ℕ) (l : List ℕ) (n : ℕ) (t u : Bool) → ltb 17 (length l) ≡ t → eqb a 48 ≡ u → choose t Nothing (choose u Nothing (numberOf 10 0 (a ∷ b ∷ l))) ≡ Is n → Digits (a ∷ b ∷ l) n
+digits-chosen : (a b : ℕ) (l : List ℕ) (n : ℕ) (t u : Bool) → ltb 17 (length l) ≡ t → eqb a 48 ≡ u → cond t Nothing (cond u Nothing (numberOf 10 0 (a ∷ b ∷ l))) ≡ Is n → Digits (a ∷ b ∷ l) n
 digits-chosen a b l n true u e f h = let z : _≡_ {A = ℕ} 0 1 = cc in absurd (omega arith)
 digits-chosen a b l n false true e f h = let z : _≡_ {A = ℕ} 0 1 = cc in absurd (omega arith)
 digits-chosen a b l n false false e f h = record { number = h; some = omega arith; few = omega (arith, ltb-false 17 (length l) e); head = λ _ q. eqb-false a 48 f q }
@@ -118,7 +118,7 @@ record Before (x : Number) (b n : ℕ) : Type 0 where
   pub low : digitOf b < 10
   pub is : n ≡ value * 10 + digitOf b
 
-before-chosen : (v b n : ℕ) (t : Bool) → ltb (digitOf b) 10 ≡ t → choose t (Is (v * 10 + digitOf b)) Nothing ≡ Is n → Before (Is v) b n
+before-chosen : (v b n : ℕ) (t : Bool) → ltb (digitOf b) 10 ≡ t → cond t (Is (v * 10 + digitOf b)) Nothing ≡ Is n → Before (Is v) b n
 before-chosen v b n true e h = record { value = v; number = refl; low = ltb-true (digitOf b) 10 e; is = cc }
 before-chosen v b n false e h = let z : _≡_ {A = ℕ} 0 1 = cc in absurd (omega arith)
 

@@ -1,6 +1,6 @@
 -- The place of a bad word lies within the text; reading makes no steps.
 use mathlib.Core.Path.{_≡_, refl}
-use mathlib.Core.Bool.{Bool, true, false}
+use mathlib.Core.Bool.{Bool, true, false, cond}
 use mathlib.Core.List.{List, [], _∷_, _++_}
 use Prim.Native.Nat.{ℕ, _+_, _≤_}
 use native.Mathlib.Omega.{arith}
@@ -16,7 +16,6 @@ use Rattle.terms.specs.declared.Answer.{Answer}
 use Rattle.terms.specs.Answer.{doneWith, refusedWith}
 use Rattle.terms.specs.Poly.{polyOf}
 use Rattle.text.specs.Spell.{spaced, parted}
-use Rattle.tokens.specs.Spelling.{choose}
 use Rattle.tokens.specs.Words.{wordsOf}
 use Rattle.reading.specs.Numbers.{ratioFrom}
 use Rattle.reading.specs.Coefficients.{badAt, alone, topOf, onward, coeffsFrom, readPoly}
@@ -33,7 +32,7 @@ alone-placed : (at n : ℕ) (l : List Ratio) → at ≤ n → Placed (alone at l
 alone-placed at n [] h k e = let z : _≡_ {A = ℕ} 0 1 = cc in absurd (omega arith)
 alone-placed at n (a ∷ l) h k e = bad-placed at n h k e
 
-top-placed : (at n : ℕ) (l : List Ratio) (c : Ratio) (t u : Bool) → at ≤ n → Placed (choose t (alone at l) (choose u (refusedWith TooLong 0) (doneWith (polyOf (l ++ (c ∷ []))) 0))) n
+top-placed : (at n : ℕ) (l : List Ratio) (c : Ratio) (t u : Bool) → at ≤ n → Placed (cond t (alone at l) (cond u (refusedWith TooLong 0) (doneWith (polyOf (l ++ (c ∷ []))) 0))) n
 top-placed at n l c true u h k e = alone-placed at n l h k e
 top-placed at n l c false true h k e = let z : _≡_ {A = ℕ} 0 1 = cc in absurd (omega arith)
 top-placed at n l c false false h k e = let z : _≡_ {A = ℕ} 0 1 = cc in absurd (omega arith)
@@ -60,7 +59,7 @@ alone-steps : (at : ℕ) (l : List Ratio) → alone at l .steps ≡ 0
 alone-steps at [] = refl
 alone-steps at (a ∷ l) = refl
 
-top-steps : (at : ℕ) (l : List Ratio) (c : Ratio) (t u : Bool) → choose t (alone at l) (choose u (refusedWith TooLong 0) (doneWith (polyOf (l ++ (c ∷ []))) 0)) .steps ≡ 0
+top-steps : (at : ℕ) (l : List Ratio) (c : Ratio) (t u : Bool) → cond t (alone at l) (cond u (refusedWith TooLong 0) (doneWith (polyOf (l ++ (c ∷ []))) 0)) .steps ≡ 0
 top-steps at l c true u = alone-steps at l
 top-steps at l c false true = refl
 top-steps at l c false false = refl

@@ -1,6 +1,6 @@
 -- A canonical polynomial has one spelling, which is read back.
 use mathlib.Core.Path.{_≡_, refl, sym, ap, ap₂, _∙_}
-use mathlib.Core.Bool.{Bool, true, false}
+use mathlib.Core.Bool.{Bool, true, false, cond}
 use mathlib.Core.List.{List, [], _∷_, _++_, map, append-assoc}
 use Prim.Native.Nat.{ℕ, _+_, _-_, _≤_}
 use native.Mathlib.Omega.{arith}
@@ -24,7 +24,7 @@ use Rattle.terms.proofs.Lists.{terms-of-poly}
 use Rattle.poly.specs.Door.{allLowest}
 use Rattle.poly.proofs.Canonical.{lowest-from, lowest-to, opened, opened-is, open-poly, open-nil}
 use Rattle.text.specs.Spell.{ratioText, ratiosText, spaced, parted, polyText}
-use Rattle.tokens.specs.Spelling.{choose, digitOf, numberOf, naturalOf}
+use Rattle.tokens.specs.Spelling.{digitOf, numberOf, naturalOf}
 use Rattle.tokens.specs.Words.{partsOf, lengthTo, wordsOf}
 use Rattle.reading.specs.Numbers.{numeratorOf, ratioFrom}
 use Rattle.reading.specs.Coefficients.{badAt, alone, topOf, onward, coeffsFrom, readPoly}
@@ -99,7 +99,7 @@ alone-got : (at : ℕ) (l : List Ratio) (w : List ℕ) (c : Ratio) (p : Poly) �
 alone-got at [] w c p t k n h = nothing refl (ap (λ x. x ∷ []) (t ∙ nil-text c k n)) (is-answer (polyOf []) p h)
 alone-got at (x ∷ l) w c p t k n h = no-answer (badAt at) p _ refl h
 
-top-got : (at : ℕ) (l : List Ratio) (w : List ℕ) (c : Ratio) (p : Poly) → w ≡ ratioText c → isLowest c ≡ true → (t u : Bool) → isNil (c .num) ≡ t → ltb 31 (length l) ≡ u → choose t (alone at l) (choose u (refusedWith TooLong 0) (doneWith (polyOf (l ++ (c ∷ []))) 0)) ≡ doneWith p 0 → Got l (w ∷ []) p
+top-got : (at : ℕ) (l : List Ratio) (w : List ℕ) (c : Ratio) (p : Poly) → w ≡ ratioText c → isLowest c ≡ true → (t u : Bool) → isNil (c .num) ≡ t → ltb 31 (length l) ≡ u → cond t (alone at l) (cond u (refusedWith TooLong 0) (doneWith (polyOf (l ++ (c ∷ []))) 0)) ≡ doneWith p 0 → Got l (w ∷ []) p
 unfolding allLowest
 top-got at l w c p t k true u n e h = alone-got at l w c p t k n h
 top-got at l w c p t k false true n e h = no-answer (refusedWith TooLong 0) p _ refl h

@@ -24,7 +24,7 @@ use Rattle.text.specs.Spell.{decimalOf, wholeText, ratioText}
 use Rattle.text.proofs.Decimal.{decimal-one}
 use Rattle.tokens.specs.declared.Number.{Number}
 use Rattle.tokens.specs.declared.Number.the-variants as N
-use Rattle.tokens.specs.Spelling.{choose, naturalOf}
+use Rattle.tokens.specs.Spelling.{naturalOf}
 use Rattle.tokens.specs.Words.{lengthTo}
 use Rattle.reading.specs.declared.Whole.{Whole}
 use Rattle.reading.specs.declared.Whole.the-variants as W
@@ -59,7 +59,7 @@ record From (neg : Bool) (x : Number) (z : ℤ) : Type 0 where
   pub some : neg ≡ true → size ≡ 0 → ⊥
   pub is : z ≡ signed neg size
 
-from-chosen : (neg : Bool) (m : ℕ) (z : ℤ) (t u : Bool) → ltb limit m ≡ t → (neg && eqb m 0) ≡ u → choose t W.Nothing (choose u W.Nothing (W.Is (signed neg m))) ≡ W.Is z → From neg (N.Is m) z
+from-chosen : (neg : Bool) (m : ℕ) (z : ℤ) (t u : Bool) → ltb limit m ≡ t → (neg && eqb m 0) ≡ u → cond t W.Nothing (cond u W.Nothing (W.Is (signed neg m))) ≡ W.Is z → From neg (N.Is m) z
 from-chosen neg m z true u e f h = let y : _≡_ {A = ℕ} 0 1 = cc in absurd (omega arith)
 from-chosen neg m z false true e f h = let y : _≡_ {A = ℕ} 0 1 = cc in absurd (omega arith)
 from-chosen neg m z false false e f h = record {
@@ -87,7 +87,7 @@ unfolding wholeText
 below-spelt l z zero e h s i = absurd (s refl)
 below-spelt l z (suc m) e h s i = record { text = ap (λ x. 45 ∷ x) (natural-spelt l (suc m) e) ∙ sym (ap wholeText i); fits = rw i h }
 
-numerator-chosen : (b : ℕ) (l : List ℕ) (z : ℤ) (t : Bool) → eqb b 45 ≡ t → choose t (wholeOf true (naturalOf l)) (wholeOf false (naturalOf (b ∷ l))) ≡ W.Is z → Whole-spelt (b ∷ l) z
+numerator-chosen : (b : ℕ) (l : List ℕ) (z : ℤ) (t : Bool) → eqb b 45 ≡ t → cond t (wholeOf true (naturalOf l)) (wholeOf false (naturalOf (b ∷ l))) ≡ W.Is z → Whole-spelt (b ∷ l) z
 numerator-chosen b l z true e h = let f = from-of true (naturalOf l) z h in rw (eqb-true b 45 e) (below-spelt l z (f .size) (f .number) (f .fits) (f .some refl) (f .is))
 numerator-chosen b l z false e h = above-spelt (b ∷ l) z (from-of false (naturalOf (b ∷ l)) z h)
 
@@ -175,7 +175,7 @@ whole-step w (W.Is z) r e h =
     rw (sym q) (record { text = k .text; lowest = low-to z 1 (k .fits) (omega arith) (λ y. omega arith) (gcd-one (natAbs z)) })
 whole-step w W.Nothing r e h = let y : _≡_ {A = ℕ} 0 1 = cc in absurd (omega arith)
 
-over-chosen : (n d : List ℕ) (z : ℤ) (m : ℕ) (r : Ratio) → Whole-spelt n z → d ≡ decimalOf m → m ≤ limit → (t u : Bool) → ltZ (pos m) (pos 2) ≡ t → eqb (gcdOf (natAbs z) m) 1 ≡ u → choose t (S.Refused BadInput) (choose u (S.Done (record { num = z; den = pos m })) (S.Refused BadInput)) ≡ S.Done r → Step-spelt (n ++ (47 ∷ d)) r
+over-chosen : (n d : List ℕ) (z : ℤ) (m : ℕ) (r : Ratio) → Whole-spelt n z → d ≡ decimalOf m → m ≤ limit → (t u : Bool) → ltZ (pos m) (pos 2) ≡ t → eqb (gcdOf (natAbs z) m) 1 ≡ u → cond t (S.Refused BadInput) (cond u (S.Done (record { num = z; den = pos m })) (S.Refused BadInput)) ≡ S.Done r → Step-spelt (n ++ (47 ∷ d)) r
 unfolding ratioText wholeText
 over-chosen n d z m r k e b true u f g h = let y : _≡_ {A = ℕ} 0 1 = cc in absurd (omega arith)
 over-chosen n d z m r k e b false false f g h = let y : _≡_ {A = ℕ} 0 1 = cc in absurd (omega arith)

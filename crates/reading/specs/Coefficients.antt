@@ -1,4 +1,5 @@
 -- Document 01, "the job program": coefficients rise and are parted by one space; zero is `0` and nothing else. The first bad word is 5 with its place, a zero at the top is bad there; then over 32 is 4.
+use mathlib.Core.Bool.{cond}
 use mathlib.Core.List.{List, [], _∷_, _++_}
 use Prim.Native.Nat.{ℕ, _+_}
 use lib.Dec.{ltb}
@@ -11,7 +12,6 @@ use Rattle.ratio.specs.declared.Step.the-variants as S
 use Rattle.terms.specs.declared.Answer.{Answer}
 use Rattle.terms.specs.Answer.{doneWith, refusedWith}
 use Rattle.terms.specs.Poly.{polyOf}
-use Rattle.tokens.specs.Spelling.{choose}
 use Rattle.tokens.specs.Words.{wordsOf}
 use Rattle.reading.specs.Numbers.{ratioFrom}
 
@@ -25,7 +25,7 @@ alone at (a ∷ l) = badAt at
 
 -- c, whose word starts at a place, is the last coefficient, after those of l
 abbrev pub topOf : ℕ → List Ratio → Ratio → Answer
-topOf at l c = choose (isNil (c .num)) (alone at l) (choose (ltb 31 (length l)) (refusedWith TooLong 0) (doneWith (polyOf (l ++ (c ∷ []))) 0))
+topOf at l c = cond (isNil (c .num)) (alone at l) (cond (ltb 31 (length l)) (refusedWith TooLong 0) (doneWith (polyOf (l ++ (c ∷ []))) 0))
 
 abbrev pub onward : ℕ → (Ratio → Answer) → Step → Answer
 onward at k (S.Done c) = k c

@@ -1,5 +1,5 @@
 -- Document 01, "the job program": how one number is spelt: n or n/d in lowest terms, d at least 2, no leading zeros, `+` or `-0`; a float is 16 hex digits, a budget 1 to 65,536.
-use mathlib.Core.Bool.{Bool, true, false, _&&_}
+use mathlib.Core.Bool.{Bool, true, false, _&&_, cond}
 use mathlib.Core.List.{List, [], _∷_}
 use Prim.Native.Nat.{ℕ}
 use lib.Dec.{ltb, eqb}
@@ -15,7 +15,7 @@ use Rattle.ratio.specs.declared.Step.{Step}
 use Rattle.ratio.specs.declared.Step.the-variants as S
 use Rattle.tokens.specs.declared.Number.{Number}
 use Rattle.tokens.specs.declared.Number.the-variants as N
-use Rattle.tokens.specs.Spelling.{choose, naturalOf, bitsOf}
+use Rattle.tokens.specs.Spelling.{naturalOf, bitsOf}
 use Rattle.tokens.specs.Words.{lengthTo}
 use Rattle.reading.specs.declared.Whole.{Whole}
 use Rattle.reading.specs.declared.Whole.the-variants as W
@@ -24,13 +24,13 @@ use Rattle.reading.specs.declared.Real.the-variants as R
 
 -- a size at most 2^63 − 1, with its sign; zero has none
 abbrev pub wholeOf : Bool → Number → Whole
-wholeOf neg (N.Is m) = choose (ltb limit m) W.Nothing (choose (neg && eqb m 0) W.Nothing (W.Is (signed neg m)))
+wholeOf neg (N.Is m) = cond (ltb limit m) W.Nothing (cond (neg && eqb m 0) W.Nothing (W.Is (signed neg m)))
 wholeOf neg N.Nothing = W.Nothing
 
 -- digits, a `-` (45) in front of what is below zero
 unfoldable pub numeratorOf : List ℕ → Whole
 numeratorOf [] = W.Nothing
-numeratorOf (b ∷ l) = choose (eqb b 45) (wholeOf true (naturalOf l)) (wholeOf false (naturalOf (b ∷ l)))
+numeratorOf (b ∷ l) = cond (eqb b 45) (wholeOf true (naturalOf l)) (wholeOf false (naturalOf (b ∷ l)))
 
 -- digits
 abbrev pub denominatorOf : List ℕ → Whole
@@ -43,8 +43,8 @@ wholeStep W.Nothing = S.Refused BadInput
 -- lowest terms, the denominator at least 2
 abbrev pub fractionStep : Whole → Whole → Step
 fractionStep (W.Is n) (W.Is d) =
-    choose (ltZ d (pos 2)) (S.Refused BadInput)
-    (choose (eqb (gcdOf (natAbs n) (natAbs d)) 1) (S.Done (record { num = n; den = d })) (S.Refused BadInput))
+    cond (ltZ d (pos 2)) (S.Refused BadInput)
+    (cond (eqb (gcdOf (natAbs n) (natAbs d)) 1) (S.Done (record { num = n; den = d })) (S.Refused BadInput))
 fractionStep (W.Is n) W.Nothing = S.Refused BadInput
 fractionStep W.Nothing d = S.Refused BadInput
 
@@ -64,7 +64,7 @@ unfoldable pub floatFrom : List ℕ → Real
 floatFrom w = realOf (bitsOf w)
 
 abbrev pub budgetOf : Number → Number
-budgetOf (N.Is n) = choose (eqb n 0) N.Nothing (choose (ltb 65536 n) N.Nothing (N.Is n))
+budgetOf (N.Is n) = cond (eqb n 0) N.Nothing (cond (ltb 65536 n) N.Nothing (N.Is n))
 budgetOf N.Nothing = N.Nothing
 
 unfoldable pub budgetFrom : List ℕ → Number

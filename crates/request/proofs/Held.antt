@@ -1,6 +1,6 @@
 -- What each line holds lies within its limits.
 use mathlib.Core.Path.{_≡_, refl, ap₂}
-use mathlib.Core.Bool.{Bool, true, false}
+use mathlib.Core.Bool.{Bool, true, false, cond}
 use mathlib.Core.List.{List}
 use Prim.Native.Nat.{ℕ, _≤_}
 use native.Mathlib.Omega.{arith}
@@ -18,7 +18,7 @@ use Rattle.terms.specs.declared.Answer.{Answer}
 use Rattle.terms.specs.Answer.{doneWith}
 use Rattle.tokens.specs.declared.Number.{Number}
 use Rattle.tokens.specs.declared.Number.the-variants as N
-use Rattle.tokens.specs.Spelling.{choose, naturalOf}
+use Rattle.tokens.specs.Spelling.{naturalOf}
 use Rattle.sturm.specs.Count.{inside}
 use Rattle.reading.specs.declared.Real.{Real}
 use Rattle.reading.specs.declared.Real.the-variants as F
@@ -67,7 +67,7 @@ ratio-held s c key wanted =
 abbrev Budgeted : ℕ → Type 0
 Budgeted n = (1 ≤ n) × (n ≤ 65536)
 
-budget-chosen : (m n : ℕ) (t u : Bool) → eqb m 0 ≡ t → ltb 65536 m ≡ u → choose t N.Nothing (choose u N.Nothing (N.Is m)) ≡ N.Is n → Budgeted n
+budget-chosen : (m n : ℕ) (t u : Bool) → eqb m 0 ≡ t → ltb 65536 m ≡ u → cond t N.Nothing (cond u N.Nothing (N.Is m)) ≡ N.Is n → Budgeted n
 budget-chosen m n true u e f h = let z : _≡_ {A = ℕ} 0 1 = cc in absurd (omega arith)
 budget-chosen m n false true e f h = let z : _≡_ {A = ℕ} 0 1 = cc in absurd (omega arith)
 budget-chosen m n false false e f h = let z : m ≡ n = cc in (omega (arith, eqb-false m 0 e), omega (arith, ltb-false 65536 m f))
@@ -92,7 +92,7 @@ budget-held s c key wanted =
 
 -- ---- floats
 
-limited-chosen : (t : Bool) (x y : Float) → choose t (F.Is x) F.Nothing ≡ F.Is y → (t ≡ true) × (x ≡ y)
+limited-chosen : (t : Bool) (x y : Float) → cond t (F.Is x) F.Nothing ≡ F.Is y → (t ≡ true) × (x ≡ y)
 limited-chosen true x y h = (refl, cc)
 limited-chosen false x y h = let z : _≡_ {A = ℕ} 0 1 = cc in absurd (omega arith)
 
@@ -119,7 +119,7 @@ tol-by : (s : List ℕ) (v : Cursor) (t : List ℕ) (r : Real) → limitedOf tru
 tol-by s v t (F.Is x) e h = limited-is true (floatFrom t) x e
 tol-by s v t F.Nothing e h = let z : _≡_ {A = ℕ} 0 1 = cc in absurd (omega arith)
 
-tol-in : (s : List ℕ) (v : Cursor) (b : Bool) → v .bad ≡ b → choose b (noFloat v) (floatBy s v (limitedOf true (floatFrom (valueAt s (v .at))))) .cursor .bad ≡ false → isLimited true (choose b (noFloat v) (floatBy s v (limitedOf true (floatFrom (valueAt s (v .at))))) .float) ≡ true
+tol-in : (s : List ℕ) (v : Cursor) (b : Bool) → v .bad ≡ b → cond b (noFloat v) (floatBy s v (limitedOf true (floatFrom (valueAt s (v .at))))) .cursor .bad ≡ false → isLimited true (cond b (noFloat v) (floatBy s v (limitedOf true (floatFrom (valueAt s (v .at))))) .float) ≡ true
 tol-in s v true e h = let z : _≡_ {A = ℕ} 0 1 = cc in absurd (omega arith)
 tol-in s v false e h = tol-by s v (valueAt s (v .at)) (limitedOf true (floatFrom (valueAt s (v .at)))) refl h
 

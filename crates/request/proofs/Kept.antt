@@ -1,6 +1,6 @@
 -- What a job that is read holds, and with what a text is refused.
 use mathlib.Core.Path.{_≡_, refl, sym, ap, subst}
-use mathlib.Core.Bool.{Bool, true, false}
+use mathlib.Core.Bool.{Bool, true, false, cond}
 use mathlib.Core.List.{List}
 use Prim.Native.Nat.{ℕ}
 use native.Mathlib.Omega.{arith}
@@ -13,7 +13,6 @@ use Rattle.ratio.specs.declared.Reason.{Reason}
 use Rattle.ratio.specs.declared.Reason.the-variants as R
 use Rattle.ratio.proofs.Steps.{zero-lowest}
 use Rattle.text.specs.Ascii.{bytes}
-use Rattle.tokens.specs.Spelling.{choose}
 use Rattle.reading.proofs.Polys.{zero-canonical}
 use Rattle.ops.specs.declared.Op.{Op}
 use Rattle.ops.specs.declared.Op.the-variants.{Unknown}
@@ -52,12 +51,12 @@ module _ (s : List ℕ) (c : Cursor) (key : List ℕ) (b : c .bad ≡ true) wher
   float-stays false tolerance = b
 
 unknown-by : (s : List ℕ) (v : Cursor) (op : Op) (t : Bool) → isKnown op ≡ t
-    → (let l : OpLine = choose t (record { op = op; cursor = closedAt s (endOf s (v .at)) false }) (record { op = Unknown; cursor = stoppedAt (v .at) }) in isKnown (l .op) ≡ false → l .cursor .bad ≡ true)
+    → (let l : OpLine = cond t (record { op = op; cursor = closedAt s (endOf s (v .at)) false }) (record { op = Unknown; cursor = stoppedAt (v .at) }) in isKnown (l .op) ≡ false → l .cursor .bad ≡ true)
 unknown-by s v op true e h = let z : _≡_ {A = ℕ} 0 1 = cc in absurd (omega arith)
 unknown-by s v op false e h = refl
 
 unknown-in : (s : List ℕ) (v : Cursor) (b : Bool) → v .bad ≡ b
-    → (let l : OpLine = choose b (record { op = Unknown; cursor = v }) (opBy s v (opOf (valueAt s (v .at)))) in isKnown (l .op) ≡ false → l .cursor .bad ≡ true)
+    → (let l : OpLine = cond b (record { op = Unknown; cursor = v }) (opBy s v (opOf (valueAt s (v .at)))) in isKnown (l .op) ≡ false → l .cursor .bad ≡ true)
 unknown-in s v true e h = e
 unknown-in s v false e h = unknown-by s v (opOf (valueAt s (v .at))) (isKnown (opOf (valueAt s (v .at)))) refl h
 
@@ -78,11 +77,11 @@ unknown-last s h =
 
 -- ---- the end
 
-finished-chosen : (at : ℕ) (b t l : Bool) → choose b (O.Refused (R.Malformed at)) (choose t (O.Refused (R.Malformed at)) (choose l (O.Refused R.TooLong) O.Done)) ≡ O.Done → b ≡ false
+finished-chosen : (at : ℕ) (b t l : Bool) → cond b (O.Refused (R.Malformed at)) (cond t (O.Refused (R.Malformed at)) (cond l (O.Refused R.TooLong) O.Done)) ≡ O.Done → b ≡ false
 finished-chosen at true t l h = let z : _≡_ {A = ℕ} 0 1 = cc in absurd (omega arith)
 finished-chosen at false t l h = refl
 
-refused-chosen : (at : ℕ) (b t l : Bool) (why : Reason) → choose b (O.Refused (R.Malformed at)) (choose t (O.Refused (R.Malformed at)) (choose l (O.Refused R.TooLong) O.Done)) ≡ O.Refused why → (numberOf why ≡ 5 → ⊥) → numberOf why ≡ 4
+refused-chosen : (at : ℕ) (b t l : Bool) (why : Reason) → cond b (O.Refused (R.Malformed at)) (cond t (O.Refused (R.Malformed at)) (cond l (O.Refused R.TooLong) O.Done)) ≡ O.Refused why → (numberOf why ≡ 5 → ⊥) → numberOf why ≡ 4
 refused-chosen at true t l why h f = let z : R.Malformed at ≡ why = cc in absurd (f (sym (ap numberOf z)))
 refused-chosen at false true l why h f = let z : R.Malformed at ≡ why = cc in absurd (f (sym (ap numberOf z)))
 refused-chosen at false false true why h f = let z : R.TooLong ≡ why = cc in sym (ap numberOf z)
@@ -109,7 +108,7 @@ refused-holds op why f g = record {
 not-done : (s : List ℕ) (c : Cursor) (why : Reason) → finishedAt s c ≡ O.Refused why → numberOf why ≡ 0 → ⊥
 not-done s c why e z = not-chosen (c .at) (c .bad) (ltb (c .at) (length s)) (c .long) why e z
   where
-    not-chosen : (at : ℕ) (b t l : Bool) (why : Reason) → choose b (O.Refused (R.Malformed at)) (choose t (O.Refused (R.Malformed at)) (choose l (O.Refused R.TooLong) O.Done)) ≡ O.Refused why → numberOf why ≡ 0 → ⊥
+    not-chosen : (at : ℕ) (b t l : Bool) (why : Reason) → cond b (O.Refused (R.Malformed at)) (cond t (O.Refused (R.Malformed at)) (cond l (O.Refused R.TooLong) O.Done)) ≡ O.Refused why → numberOf why ≡ 0 → ⊥
     not-chosen at true t l why h z = let y : R.Malformed at ≡ why = cc in omega (arith, ap numberOf y)
     not-chosen at false true l why h z = let y : R.Malformed at ≡ why = cc in omega (arith, ap numberOf y)
     not-chosen at false false true why h z = let y : R.TooLong ≡ why = cc in omega (arith, ap numberOf y)

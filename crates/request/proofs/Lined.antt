@@ -1,6 +1,6 @@
 -- Each kind of line, by the cases that the code tells apart.
 use mathlib.Core.Path.{_≡_, refl, sym, ap, _∙_}
-use mathlib.Core.Bool.{Bool, true, false}
+use mathlib.Core.Bool.{Bool, true, false, cond}
 use mathlib.Core.List.{List, [], _∷_}
 use Prim.Native.Nat.{ℕ, _+_, _-_}
 use denote.Enum.Declared.{tagOf}
@@ -14,7 +14,6 @@ use Rattle.ratio.specs.declared.Step.the-variants as S
 use Rattle.ratio.proofs.Reason as Reasons
 use Rattle.terms.specs.declared.Answer.{Answer}
 use Rattle.tokens.specs.declared.Number.the-variants as N
-use Rattle.tokens.specs.Spelling.{choose}
 use Rattle.reading.specs.declared.Real.the-variants as F
 use lib.Ieee.{Float}
 use Rattle.reading.specs.Numbers.{ratioFrom, floatFrom, budgetFrom}
@@ -28,10 +27,10 @@ use Rattle.request.specs.Ops.{begins}
 use Rattle.request.specs.Lines.{stoppedAt, standingAt, tooLong, cursorFor, openedAt, endOf, closedAt, valueAt, noPoly, polyBy, polyIn, polyLineOf, noRatio, ratioBy, ratioInLine, ratioLineOf, noBudget, budgetBy, budgetIn, budgetLineOf, limitedOf, noFloat, floatBy, floatIn, floatLineOf}
 use Rattle.request.proofs.Within.{value-is}
 
-pub pick-true : {X : Type 0} {t : Bool} → t ≡ true → (a b : X) → a ≡ choose t a b
+pub pick-true : {X : Type 0} {t : Bool} → t ≡ true → (a b : X) → a ≡ cond t a b
 pick-true e a b = rw e
 
-pub pick-false : {X : Type 0} {t : Bool} → t ≡ false → (a b : X) → b ≡ choose t a b
+pub pick-false : {X : Type 0} {t : Bool} → t ≡ false → (a b : X) → b ≡ cond t a b
 pick-false e a b = rw e
 
 -- a key that is there, and one that isn't

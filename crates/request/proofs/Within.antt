@@ -1,6 +1,6 @@
 -- Reading stays within the text.
 use mathlib.Core.Path.{_≡_, refl, sym, ap, _∙_}
-use mathlib.Core.Bool.{Bool, true, false}
+use mathlib.Core.Bool.{Bool, true, false, cond}
 use mathlib.Core.List.{List, [], _∷_}
 use Prim.Native.Nat.{ℕ, suc, _+_, _-_, _≤_}
 use native.Mathlib.Omega.{arith}
@@ -19,7 +19,6 @@ use Rattle.terms.specs.declared.Poly.{Poly}
 use Rattle.text.specs.Ascii.{bytes}
 use Rattle.tokens.specs.declared.Number.{Number}
 use Rattle.tokens.specs.declared.Number.the-variants as N
-use Rattle.tokens.specs.Spelling.{choose}
 use Rattle.tokens.specs.Words.{lengthTo}
 use Rattle.tokens.proofs.Words.{length-bounded}
 use Rattle.reading.specs.declared.Real.{Real}
@@ -39,11 +38,11 @@ use Rattle.request.specs.Lines.{stoppedAt, standingAt, openedAt, endOf, 
 use Rattle.request.specs.Request.{opBy, opLineOf, keysOf, aOf, bOf, xOf, budgetOf, loOf, hiOf}
 
 -- one of two
-pub chosen : {X : Type 0} (P : X → Type 0) (t : Bool) (a b : X) → P a → P b → P (choose t a b)
+pub chosen : {X : Type 0} (P : X → Type 0) (t : Bool) (a b : X) → P a → P b → P (cond t a b)
 chosen P true a b x y = x
 chosen P false a b x y = y
 
-begins-next : (t u : Bool) (n m : ℕ) → (u ≡ true → n ≤ m) → choose t u false ≡ true → suc n ≤ suc m
+begins-next : (t u : Bool) (n m : ℕ) → (u ≡ true → n ≤ m) → cond t u false ≡ true → suc n ≤ suc m
 begins-next true u n m h e = let k : n ≤ m = h e in omega arith
 begins-next false u n m h e = let z : _≡_ {A = ℕ} 0 1 = cc in absurd (omega arith)
 
@@ -64,16 +63,16 @@ value-length s at = length-take-le (lengthTo 10 (drop at s)) (drop at s) (length
 pub value-is : (s : List ℕ) (at end : ℕ) → end ≡ endOf s at → take (end - at) (drop at s) ≡ valueAt s at
 value-is s at end e = let k : end - at ≡ lengthTo 10 (drop at s) = omega arith in rw k
 
-opened-key : (s key : List ℕ) (c : Cursor) (t : Bool) → begins key (drop (c .at) s) ≡ t → c .at ≤ length s → choose t (standingAt (c .at + length key) (c .long)) (stoppedAt (c .at)) .at ≤ length s
+opened-key : (s key : List ℕ) (c : Cursor) (t : Bool) → begins key (drop (c .at) s) ≡ t → c .at ≤ length s → cond t (standingAt (c .at + length key) (c .long)) (stoppedAt (c .at)) .at ≤ length s
 opened-key s key c true e h = omega (arith, begins-fits key (drop (c .at) s) e, length-drop (c .at) s)
 opened-key s key c false e h = h
 
 pub opened-within : (s key : List ℕ) (c : Cursor) → c .at ≤ length s → openedAt s key c .at ≤ length s
 opened-within s key c h =
-    chosen (λ (d : Cursor). d .at ≤ length s) (c .bad) c (choose (begins key (drop (c .at) s)) (standingAt (c .at + length key) (c .long)) (stoppedAt (c .at))) h
+    chosen (λ (d : Cursor). d .at ≤ length s) (c .bad) c (cond (begins key (drop (c .at) s)) (standingAt (c .at + length key) (c .long)) (stoppedAt (c .at))) h
     (opened-key s key c (begins key (drop (c .at) s)) refl h)
 
-closed-end : (s : List ℕ) (end : ℕ) (long t : Bool) → ltb end (length s) ≡ t → end ≤ length s → choose t (standingAt (end + 1) long) (stoppedAt end) .at ≤ length s
+closed-end : (s : List ℕ) (end : ℕ) (long t : Bool) → ltb end (length s) ≡ t → end ≤ length s → cond t (standingAt (end + 1) long) (stoppedAt end) .at ≤ length s
 closed-end s end long true e h = omega (arith, ltb-true end (length s) e)
 closed-end s end long false e h = h
 

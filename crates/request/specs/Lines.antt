@@ -1,5 +1,5 @@
 -- Document 01, "the job program": a line is a key, `=`, a value and a newline. Read from left to right; the first thing that is bad stops it, with its place.
-use mathlib.Core.Bool.{Bool, true, false, _&&_}
+use mathlib.Core.Bool.{Bool, true, false, _&&_, cond}
 use mathlib.Core.List.{List, []}
 use Prim.Native.Nat.{ℕ, _+_}
 use lib.Dec.{ltb}
@@ -18,7 +18,6 @@ use Rattle.terms.specs.Poly.{polyOf}
 use Rattle.sturm.specs.Count.{inside}
 use Rattle.tokens.specs.declared.Number.{Number}
 use Rattle.tokens.specs.declared.Number.the-variants as N
-use Rattle.tokens.specs.Spelling.{choose}
 use Rattle.tokens.specs.Words.{lengthTo}
 use Rattle.reading.specs.declared.Real.{Real}
 use Rattle.reading.specs.declared.Real.the-variants as F
@@ -43,7 +42,7 @@ standingAt at long = record { at = at; bad = false; long = long }
 
 -- behind the key of the line that starts here; another line is bad at its start
 abbrev pub openedAt : List ℕ → List ℕ → Cursor → Cursor
-openedAt s key c = choose (c .bad) c (choose (begins key (drop (c .at) s)) (standingAt (c .at + length key) (c .long)) (stoppedAt (c .at)))
+openedAt s key c = cond (c .bad) c (cond (begins key (drop (c .at) s)) (standingAt (c .at + length key) (c .long)) (stoppedAt (c .at)))
 
 -- the end of the value that starts here: a newline (10) or the text's end
 abbrev pub endOf : List ℕ → ℕ → ℕ
@@ -54,7 +53,7 @@ valueAt s at = take (lengthTo 10 (drop at s)) (drop at s)
 
 -- behind the newline at the end of a value; where it is missing, the text's end is bad
 abbrev pub closedAt : List ℕ → ℕ → Bool → Cursor
-closedAt s end long = choose (ltb end (length s)) (standingAt (end + 1) long) (stoppedAt end)
+closedAt s end long = cond (ltb end (length s)) (standingAt (end + 1) long) (stoppedAt end)
 
 -- ---- a line with coefficients
 
@@ -82,11 +81,11 @@ polyBy s v O.Done p = record { cursor = closedAt s (endOf s (v .at)) (v .long); 
 polyBy s v (O.Refused why) p = noPoly (cursorFor s v why)
 
 abbrev pub polyIn : List ℕ → Cursor → PolyLine
-polyIn s v = choose (v .bad) (noPoly v) (let r = readPoly (valueAt s (v .at)) in polyBy s v (r .outcome) (r .poly))
+polyIn s v = cond (v .bad) (noPoly v) (let r = readPoly (valueAt s (v .at)) in polyBy s v (r .outcome) (r .poly))
 
 -- a line that is not wanted is not there
 unfoldable pub polyLineOf : List ℕ → Cursor → List ℕ → Bool → PolyLine
-polyLineOf s c key wanted = choose wanted (polyIn s (openedAt s key c)) (noPoly c)
+polyLineOf s c key wanted = cond wanted (polyIn s (openedAt s key c)) (noPoly c)
 
 -- ---- a line with a fraction
 
@@ -98,10 +97,10 @@ ratioBy s v (S.Done r) = record { cursor = closedAt s (endOf s (v .at)) (v .long
 ratioBy s v (S.Refused why) = noRatio (stoppedAt (v .at))
 
 abbrev pub ratioInLine : List ℕ → Cursor → RatioLine
-ratioInLine s v = choose (v .bad) (noRatio v) (ratioBy s v (ratioFrom (valueAt s (v .at))))
+ratioInLine s v = cond (v .bad) (noRatio v) (ratioBy s v (ratioFrom (valueAt s (v .at))))
 
 unfoldable pub ratioLineOf : List ℕ → Cursor → List ℕ → Bool → RatioLine
-ratioLineOf s c key wanted = choose wanted (ratioInLine s (openedAt s key c)) (noRatio c)
+ratioLineOf s c key wanted = cond wanted (ratioInLine s (openedAt s key c)) (noRatio c)
 
 -- ---- a line with a budget
 
@@ -117,11 +116,11 @@ budgetBy s v (N.Is n) = record { cursor = closedAt s (endOf s (v .at)) (v .long)
 budgetBy s v N.Nothing = noBudget (stoppedAt (v .at))
 
 abbrev pub budgetIn : List ℕ → Cursor → BudgetLine
-budgetIn s v = choose (v .bad) (noBudget v) (budgetBy s v (budgetFrom (valueAt s (v .at))))
+budgetIn s v = cond (v .bad) (noBudget v) (budgetBy s v (budgetFrom (valueAt s (v .at))))
 
 -- it may be missing
 unfoldable pub budgetLineOf : List ℕ → Cursor → List ℕ → Bool → BudgetLine
-budgetLineOf s c key wanted = choose wanted (choose (begins key (drop (c .at) s)) (budgetIn s (openedAt s key c)) (noBudget c)) (noBudget c)
+budgetLineOf s c key wanted = cond wanted (cond (begins key (drop (c .at) s)) (budgetIn s (openedAt s key c)) (noBudget c)) (noBudget c)
 
 -- ---- a line with a float
 
@@ -131,7 +130,7 @@ isLimited true x = finite x && lt (ofBits binary64 0) x
 isLimited false x = inside x
 
 abbrev pub limitedOf : Bool → Real → Real
-limitedOf tolerance (F.Is x) = choose (isLimited tolerance x) (F.Is x) F.Nothing
+limitedOf tolerance (F.Is x) = cond (isLimited tolerance x) (F.Is x) F.Nothing
 limitedOf tolerance F.Nothing = F.Nothing
 
 abbrev pub noFloat : Cursor → FloatLine
@@ -142,7 +141,7 @@ floatBy s v (F.Is x) = record { cursor = closedAt s (endOf s (v .at)) (v .long);
 floatBy s v F.Nothing = noFloat (stoppedAt (v .at))
 
 abbrev pub floatIn : List ℕ → Cursor → Bool → FloatLine
-floatIn s v tolerance = choose (v .bad) (noFloat v) (floatBy s v (limitedOf tolerance (floatFrom (valueAt s (v .at)))))
+floatIn s v tolerance = cond (v .bad) (noFloat v) (floatBy s v (limitedOf tolerance (floatFrom (valueAt s (v .at)))))
 
 unfoldable pub floatLineOf : List ℕ → Cursor → List ℕ → Bool → Bool → FloatLine
-floatLineOf s c key wanted tolerance = choose wanted (floatIn s (openedAt s key c) tolerance) (noFloat c)
+floatLineOf s c key wanted tolerance = cond wanted (floatIn s (openedAt s key c) tolerance) (noFloat c)

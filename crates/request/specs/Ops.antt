@@ -1,10 +1,9 @@
 -- Document 01, "the job program": the operation that a name is, and the keys that each operation has after a.
-use mathlib.Core.Bool.{Bool, true, false}
+use mathlib.Core.Bool.{Bool, true, false, cond}
 use mathlib.Core.List.{List, [], _∷_}
 use Prim.Native.Nat.{ℕ}
 use lib.Dec.{eqb}
 use lib.ListN.{length}
-use Rattle.tokens.specs.Spelling.{choose}
 use Rattle.ops.specs.declared.Op.{Op}
 use Rattle.ops.specs.declared.Op.the-variants.{Add, Sub, Mul, Divide, Gcd, Resultant, Neg, Diff, Discriminant, Roots, Factor, Rebuild, Eval, Count, Isolate, Unknown}
 use Rattle.request.specs.declared.Wants.{Wants}
@@ -14,14 +13,14 @@ use Rattle.ops.specs.Op.{nameOf}
 unfoldable pub begins : List ℕ → List ℕ → Bool
 begins [] s = true
 begins (k ∷ key) [] = false
-begins (k ∷ key) (b ∷ s) = choose (eqb b k) (begins key s) false
+begins (k ∷ key) (b ∷ s) = cond (eqb b k) (begins key s) false
 
 -- whether a word is a name
 abbrev pub isName : List ℕ → List ℕ → Bool
-isName name w = choose (eqb (length w) (length name)) (begins name w) false
+isName name w = cond (eqb (length w) (length name)) (begins name w) false
 
 abbrev pub orOp : List ℕ → Op → Op → Op
-orOp w op rest = choose (isName (nameOf op) w) op rest
+orOp w op rest = cond (isName (nameOf op) w) op rest
 
 -- a with numbers
 unfoldable pub opWithNumbers : List ℕ → Op

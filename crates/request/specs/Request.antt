@@ -1,5 +1,5 @@
 -- Document 01, "the job program": a job is its lines in the order op, a, b, x, budget, lo, hi, tol, unused keys absent, and nothing behind them; at most 4,096 bytes. 5 anywhere comes before 4.
-use mathlib.Core.Bool.{true, false}
+use mathlib.Core.Bool.{true, false, cond}
 use mathlib.Core.List.{List, []}
 use Prim.Native.Nat.{ℕ}
 use lib.Dec.{ltb}
@@ -12,7 +12,6 @@ use Rattle.ratio.specs.declared.Reason.{Reason}
 use Rattle.ratio.specs.declared.Reason.the-variants as R
 use Rattle.terms.specs.Poly.{polyOf}
 use Rattle.text.specs.Ascii.{bytes}
-use Rattle.tokens.specs.Spelling.{choose}
 use Rattle.ops.specs.declared.Op.{Op}
 use Rattle.ops.specs.declared.Op.the-variants.{Unknown}
 use Rattle.request.specs.declared.Cursor.{Cursor}
@@ -30,10 +29,10 @@ use Rattle.request.specs.Lines.{stoppedAt, standingAt, openedAt, endOf, 
 -- ---- the lines
 
 abbrev pub opBy : List ℕ → Cursor → Op → OpLine
-opBy s v op = choose (isKnown op) (record { op = op; cursor = closedAt s (endOf s (v .at)) false }) (record { op = Unknown; cursor = stoppedAt (v .at) })
+opBy s v op = cond (isKnown op) (record { op = op; cursor = closedAt s (endOf s (v .at)) false }) (record { op = Unknown; cursor = stoppedAt (v .at) })
 
 abbrev pub opIn : List ℕ → Cursor → OpLine
-opIn s v = choose (v .bad) (record { op = Unknown; cursor = v }) (opBy s v (opOf (valueAt s (v .at))))
+opIn s v = cond (v .bad) (record { op = Unknown; cursor = v }) (opBy s v (opOf (valueAt s (v .at))))
 
 unfoldable pub opLineOf : List ℕ → OpLine
 opLineOf s = opIn s (openedAt s (bytes "op=") (standingAt 0 false))
@@ -71,9 +70,9 @@ intervalOf s = record { cursor = tolOf s .cursor; lo = loOf s .float; hi = hiOf 
 -- what is bad, or a line too many; then a list that is too long
 abbrev pub finishedAt : List ℕ → Cursor → Outcome
 finishedAt s c =
-    choose (c .bad) (O.Refused (R.Malformed (c .at)))
-    (choose (ltb (c .at) (length s)) (O.Refused (R.Malformed (c .at)))
-    (choose (c .long) (O.Refused R.TooLong) O.Done))
+    cond (c .bad) (O.Refused (R.Malformed (c .at)))
+    (cond (ltb (c .at) (length s)) (O.Refused (R.Malformed (c .at)))
+    (cond (c .long) (O.Refused R.TooLong) O.Done))
 
 abbrev pub refusedFor : Op → Reason → Request
 refusedFor op why = record {
@@ -114,4 +113,4 @@ longest = 4096
 
 -- one that is longer is not read past its first line
 unfoldable pub requestOf : List ℕ → Request
-requestOf s = choose (ltb longest (length s)) (refusedFor (opLineOf s .op) (R.Malformed longest)) (madeOf s)
+requestOf s = cond (ltb longest (length s)) (refusedFor (opLineOf s .op) (R.Malformed longest)) (madeOf s)

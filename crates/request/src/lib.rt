@@ -420,7 +420,7 @@ fn is_limited(tolerance: bool, x: f64) -> bool
         } else {
             false
         }
-    } else if refine::is_finite(x) {
+    } else if bridge::is_finite(x) {
         x > 0.0
     } else {
         false

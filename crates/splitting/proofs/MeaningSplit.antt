@@ -1,6 +1,6 @@
 -- Splitting: the powers of the factors multiply to what was to be split, and every factor has degree at least 1.
 use mathlib.Core.Path.{_≡_, refl, sym, ap, subst, _∙_}
-use mathlib.Core.Bool.{Bool, true, false}
+use mathlib.Core.Bool.{Bool, true, false, cond}
 use mathlib.Core.List.{List, [], _∷_}
 use Prim.Native.Nat.{ℕ, zero, suc, _+_, _-_, _≤_}
 use native.Mathlib.Omega.{arith}
@@ -27,7 +27,7 @@ use Rattle.yun.specs.declared.Piece.{Piece}
 use Rattle.yun.specs.Got.{Got, got, none, thenGot}
 use Rattle.yun.proofs.MeaningPieces.{powersP}
 use Rattle.splitting.specs.Peel.{added, Peel, start, peeled, rootsIn}
-use Rattle.splitting.specs.Pair.{Halves, whole, both, ifWhole, pairOf}
+use Rattle.splitting.specs.Pair.{Halves, whole, both, pairOf}
 use Rattle.splitting.specs.Split.{Found, onRoots, onHalves, splitOnto}
 use Rattle.splitting.proofs.Shorter.{parts-below, halved, cut, factor-is, factor-long}
 use Rattle.splitting.proofs.MeaningParts.{NoRoot, rootless-divisor, rootless, Ready, Grown, constant-grown, added-grown}
@@ -62,19 +62,19 @@ module _ (times budget : ℕ) where
   module _ (k : ℕ) (inner : Inner k) (f : List Ratio) (found : List Piece) (bound : length f ≤ suc k) (r : Ready found f) where
     -- dividing out the roots, and Kronecker's method
     abbrev peelWork : Found
-    peelWork = thenGot (peeled times (rootsIn (rootsOf f budget)) (start found f)) (λ m. ifWhole (ltb (length (m .rest)) (length f)) (splitOnto k (m .rest) times budget (m .found)) (got (added (m .rest) times (m .found))))
+    peelWork = thenGot (peeled times (rootsIn (rootsOf f budget)) (start found f)) (λ m. cond (ltb (length (m .rest)) (length f)) (splitOnto k (m .rest) times budget (m .found)) (got (added (m .rest) times (m .found))))
 
     abbrev pairWork : Found
     pairWork = thenGot (pairOf f budget) (λ h. onHalves h (got (added f times found)) (λ g q. thenGot (splitOnto k g times budget found) (λ m. splitOnto k q times budget m)))
 
     abbrev rootWork : Found
-    rootWork = ifWhole (ltb 0 (rootsOf f budget .len)) peelWork pairWork
+    rootWork = cond (ltb 0 (rootsOf f budget .len)) peelWork pairWork
 
     whole-meant : 2 ≤ length f → Meant found f (got (added f times found))
     whole-meant h = got-meant found f _ (added-grown times found f (r .parts) (r .canonical) h (r .short) (omega (arith, r .room)))
 
     -- what was peeled off and what is left of it
-    rest-meant : (m : Peel) → Peels times found f m → 3 ≤ length f → (b : Bool) → ltb (length (m .rest)) (length f) ≡ b → Meant found f (ifWhole b (splitOnto k (m .rest) times budget (m .found)) (got (added (m .rest) times (m .found))))
+    rest-meant : (m : Peel) → Peels times found f m → 3 ≤ length f → (b : Bool) → ltb (length (m .rest)) (length f) ≡ b → Meant found f (cond b (splitOnto k (m .rest) times budget (m .found)) (got (added (m .rest) times (m .found))))
     unfolding Meant Inner
     rest-meant m p h true t l e =
         let g = inner (m .rest) (m .found) (omega (arith, ltb-true (length (m .rest)) (length f) t)) (p .ready) l e in
@@ -85,7 +85,7 @@ module _ (times budget : ℕ) where
         got-meant found f (added (m .rest) times (m .found)) (record { is = g .is ∙ p .is; parts = g .parts; few = omega (arith, g .few, p .few) }) l e
 
     peel-meant : 3 ≤ length f → (g : Got Peel) → peeled times (rootsIn (rootsOf f budget)) (start found f) ≡ g
-        → Meant found f (thenGot g (λ m. ifWhole (ltb (length (m .rest)) (length f)) (splitOnto k (m .rest) times budget (m .found)) (got (added (m .rest) times (m .found)))))
+        → Meant found f (thenGot g (λ m. cond (ltb (length (m .rest)) (length f)) (splitOnto k (m .rest) times budget (m .found)) (got (added (m .rest) times (m .found)))))
     unfolding Meant
     peel-meant h (got m) q = rest-meant m (all-peels times (rootsIn (rootsOf f budget)) found f r m q) h (ltb (length (m .rest)) (length f)) refl
     peel-meant h (none why) q = λ l e. absurd (let z : _≡_ {A = ℕ} 0 1 = cc in omega arith)
@@ -161,7 +161,7 @@ module _ (times budget : ℕ) where
     pair-meant h n (none why) p = λ l e. absurd (let z : _≡_ {A = ℕ} 0 1 = cc in omega arith)
 
     roots-meant : 3 ≤ length f → rootsOf f budget .outcome ≡ O.Done → (b : Bool) → ltb 0 (rootsOf f budget .len) ≡ b
-        → Meant found f (ifWhole b peelWork pairWork)
+        → Meant found f (cond b peelWork pairWork)
     roots-meant h o true t = peel-meant h (peeled times (rootsIn (rootsOf f budget)) (start found f)) refl
     roots-meant h o false t = pair-meant h (no-roots f budget (r .canonical) (r .some) (r .short) o (ltb-false 0 (rootsOf f budget .len) t)) (pairOf f budget) refl
 
@@ -174,11 +174,11 @@ module _ (times budget : ℕ) where
     longer : 2 ≤ length f → (length f ≡ 2 → ⊥) → 3 ≤ length f
     longer h n = omega arith
 
-    line-meant : 2 ≤ length f → (b : Bool) → eqb (length f) 2 ≡ b → Meant found f (ifWhole b (got (added f times found)) (onRoots (rootsOf f budget .outcome) rootWork))
+    line-meant : 2 ≤ length f → (b : Bool) → eqb (length f) 2 ≡ b → Meant found f (cond b (got (added f times found)) (onRoots (rootsOf f budget .outcome) rootWork))
     line-meant h true e = whole-meant h
     line-meant h false e = outcome-meant (longer h (eqb-false (length f) 2 e)) (rootsOf f budget .outcome) refl
 
-    call-meant : (b : Bool) → ltb (length f) 2 ≡ b → Meant found f (ifWhole b (got found) (ifWhole (eqb (length f) 2) (got (added f times found)) (onRoots (rootsOf f budget .outcome) rootWork)))
+    call-meant : (b : Bool) → ltb (length f) 2 ≡ b → Meant found f (cond b (got found) (cond (eqb (length f) 2) (got (added f times found)) (onRoots (rootsOf f budget .outcome) rootWork)))
     call-meant true e = got-meant found f found (constant-grown times found f r (ltb-true (length f) 2 e))
     call-meant false e = line-meant (ltb-false (length f) 2 e) (eqb (length f) 2) refl
 

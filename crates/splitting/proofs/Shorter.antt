@@ -1,6 +1,6 @@
 -- What two halves that were found are: the first is Kronecker's factor, the second its quotient, and both are shorter than the whole.
 use mathlib.Core.Path.{_≡_, refl, sym, ap, subst, _∙_}
-use mathlib.Core.Bool.{Bool, true, false}
+use mathlib.Core.Bool.{Bool, true, false, cond}
 use mathlib.Core.List.{List, [], _∷_}
 use Prim.Native.Nat.{ℕ, _+_, _-_, _<_, _≤_}
 use native.Mathlib.Omega.{arith}
@@ -21,7 +21,7 @@ use Rattle.kronecker.specs.declared.Verdict.{Verdict}
 use Rattle.kronecker.specs.declared.Verdict.the-variants.{Found, Next, NoSplit, Refused}
 use Rattle.kronecker.specs.Split.{trySplitOf}
 use Rattle.kronecker.proofs.Found.{Cut, found-cut, factor-made}
-use Rattle.splitting.specs.Pair.{Padded, Halves, whole, both, ifWhole, halvesIf, pairedBy, onVerdict, pairOf}
+use Rattle.splitting.specs.Pair.{Padded, Halves, whole, both, halvesIf, pairedBy, onVerdict, pairOf}
 
 -- ---- a division that was answered
 
@@ -71,7 +71,7 @@ verdict-from Next f g₀ g q e = absurd (let z : _≡_ {A = ℕ} 0 1 = cc in ome
 verdict-from NoSplit f g₀ g q e = absurd (let z : _≡_ {A = ℕ} 0 1 = cc in omega arith)
 verdict-from (Refused why) f g₀ g q e = absurd (let z : _≡_ {A = ℕ} 0 1 = cc in omega arith)
 
-whole-from : (b : Bool) (r : Got Halves) (g q : List Ratio) → ifWhole b (got whole) r ≡ got (both g q) → r ≡ got (both g q)
+whole-from : (b : Bool) (r : Got Halves) (g q : List Ratio) → cond b (got whole) r ≡ got (both g q) → r ≡ got (both g q)
 whole-from true r g q e = absurd (let z : _≡_ {A = ℕ} 0 1 = cc in omega arith)
 whole-from false r g q e = e
 

@@ -1,6 +1,6 @@
 -- Document 01, module 5, factors: Kronecker's method for degrees 3 to 6; the factor found and the quotient, where that has degree 1 or more.
 use mathlib.Core.Path.{_≡_}
-use mathlib.Core.Bool.{Bool, true, false}
+use mathlib.Core.Bool.{Bool, true, false, cond}
 use mathlib.Core.List.{List, [], _∷_}
 use Prim.Native.Nat.{ℕ}
 use lib.Dec.{ltb}
@@ -21,12 +21,8 @@ pub data Halves : Type 0 where
   whole : Halves
   both : List Ratio → List Ratio → Halves
 
-abbrev pub ifWhole : {X : Type 0} → Bool → X → X → X
-ifWhole true a b = a
-ifWhole false a b = b
-
 abbrev pub halvesIf : List Ratio → List Ratio → List Ratio → Halves
-halvesIf [] g q = ifWhole (ltb (length q) 2) whole (both g q)
+halvesIf [] g q = cond (ltb (length q) 2) whole (both g q)
 halvesIf (x ∷ r) g q = whole
 
 unfoldable pub pairedBy : List Ratio → List Ratio → Got Halves
@@ -41,8 +37,8 @@ onVerdict (Refused why) f g = none why
 -- other degrees are not looked at
 unfoldable pub pairOf : List Ratio → ℕ → Got Halves
 pairOf f budget =
-    ifWhole (ltb (length f) 4) (got whole)
-    (ifWhole (ltb 7 (length f)) (got whole)
+    cond (ltb (length f) 4) (got whole)
+    (cond (ltb 7 (length f)) (got whole)
     (onVerdict (trySplitOf f budget .verdict) f (termsOf (trySplitOf f budget .factor))))
 
 -- how it lies in memory

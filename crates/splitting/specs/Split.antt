@@ -1,5 +1,6 @@
 -- Document 01, module 5, `split_into_irreducibles`: rational roots first, then Kronecker; what isn't split stays whole. A refusal is handed on.
 use mathlib.Core.Path.{_≡_}
+use mathlib.Core.Bool.{cond}
 use mathlib.Core.List.{List, [], _∷_}
 use Prim.Native.Nat.{ℕ, zero, suc, _≤_}
 use lib.Dec.{ltb, eqb}
@@ -14,7 +15,7 @@ use Rattle.yun.specs.declared.Piece.{Piece}
 use Rattle.yun.specs.Answer.{foundAll, piecesOf, decompositionOf}
 use Rattle.yun.specs.Got.{Got, got, none, thenGot}
 use Rattle.splitting.specs.Peel.{added, start, peeled, rootsIn}
-use Rattle.splitting.specs.Pair.{Halves, whole, both, ifWhole, pairOf}
+use Rattle.splitting.specs.Pair.{Halves, whole, both, pairOf}
 
 abbrev pub Found : Type 0
 Found = Got (List Piece)
@@ -32,12 +33,12 @@ onHalves (both g q) r k = k g q
 unfoldable pub splitOnto : ℕ → List Ratio → ℕ → ℕ → List Piece → Found
 splitOnto zero f times budget found = got found
 splitOnto (suc k) f times budget found =
-    ifWhole (ltb (length f) 2) (got found)
-    (ifWhole (eqb (length f) 2) (got (added f times found))
+    cond (ltb (length f) 2) (got found)
+    (cond (eqb (length f) 2) (got (added f times found))
     (onRoots (rootsOf f budget .outcome)
-    (ifWhole (ltb 0 (rootsOf f budget .len))
+    (cond (ltb 0 (rootsOf f budget .len))
     (thenGot (peeled times (rootsIn (rootsOf f budget)) (start found f)) (λ l.
-    ifWhole (ltb (length (l .rest)) (length f)) (splitOnto k (l .rest) times budget (l .found)) (got (added (l .rest) times (l .found)))))
+    cond (ltb (length (l .rest)) (length f)) (splitOnto k (l .rest) times budget (l .found)) (got (added (l .rest) times (l .found)))))
     (thenGot (pairOf f budget) (λ h.
     onHalves h (got (added f times found)) (λ g q. thenGot (splitOnto k g times budget found) (λ found. splitOnto k q times budget found)))))))
 

@@ -1,6 +1,6 @@
 -- One turn of the check: the first word decides, or the rest does.
 use mathlib.Core.Path.{_≡_, ap, _∙_}
-use mathlib.Core.Bool.{Bool, true, false}
+use mathlib.Core.Bool.{Bool, true, false, cond}
 use mathlib.Core.List.{List, [], _∷_}
 use Prim.Native.Nat.{ℕ, _+_, _-_, _<_, _≤_}
 use native.Mathlib.Omega.{arith}
@@ -11,7 +11,7 @@ use Rattle.ratio.specs.declared.Outcome.the-variants as O
 use Rattle.ratio.specs.declared.Reason.the-variants as R
 use Rattle.tokens.specs.declared.Height.{Height}
 use Rattle.tokens.specs.declared.Token.{Token}
-use Rattle.tokens.specs.Spelling.{choose, tokenOf}
+use Rattle.tokens.specs.Spelling.{tokenOf}
 use Rattle.tokens.specs.Words.{wordsOf, wordLength}
 use Rattle.tokens.specs.Heights.{isOther, isBad, after, finish, checkFrom}
 use Rattle.tokens.proofs.Words.{laterParts, parts-first, length-bounded}
@@ -60,7 +60,7 @@ some (b ∷ l) H t = omega arith
 pub word-some : (s : List ℕ) (at end : ℕ) (H : Height) → isBad (tokenOf (take (end - at) (drop at s))) H ≡ false → at < end
 word-some s at end H t = omega (arith, some (take (end - at) (drop at s)) H t, length-take (end - at) (drop at s))
 
-grown : (p o : Bool) (a b c : Height) → a .values ≤ c .values → b .values ≤ c .values → (d : Height) → d .values ≤ c .values → choose p a (choose o b d) .values ≤ c .values
+grown : (p o : Bool) (a b c : Height) → a .values ≤ c .values → b .values ≤ c .values → (d : Height) → d .values ≤ c .values → cond p a (cond o b d) .values ≤ c .values
 grown true o a b c x y d z = x
 grown false true a b c x y d z = y
 grown false false a b c x y d z = z

@@ -1,6 +1,6 @@
 -- The first part of a text, up to a mark, and the rest of its parts.
 use mathlib.Core.Path.{_≡_, refl}
-use mathlib.Core.Bool.{Bool, true, false}
+use mathlib.Core.Bool.{Bool, true, false, cond}
 use mathlib.Core.List.{List, [], _∷_}
 use Prim.Native.Nat.{ℕ, zero, suc, _+_, _-_, _<_, _≤_}
 use native.Mathlib.Omega.{arith}
@@ -9,7 +9,6 @@ use borrow.Author.Tests.{eq-eqb, ne-eqb}
 use lib.Dec.{eqb}
 use lib.ListN.{length, take, drop, getD, drop-of-length-le}
 use lib.Seq.{drop-cons}
-use Rattle.tokens.specs.Spelling.{choose}
 use Rattle.tokens.specs.Words.{onFirst, partsOf, lengthTo}
 
 -- the parts after the first one
@@ -18,7 +17,7 @@ laterParts mark [] = []
 laterParts mark (b ∷ l) = partsOf mark l
 
 first : (t : Bool) (mark b : ℕ) (l : List ℕ) → partsOf mark l ≡ take (lengthTo mark l) l ∷ laterParts mark (drop (lengthTo mark l) l)
-    → choose t ([] ∷ partsOf mark l) (onFirst b (partsOf mark l)) ≡ take (choose t zero (suc (lengthTo mark l))) (b ∷ l) ∷ laterParts mark (drop (choose t zero (suc (lengthTo mark l))) (b ∷ l))
+    → cond t ([] ∷ partsOf mark l) (onFirst b (partsOf mark l)) ≡ take (cond t zero (suc (lengthTo mark l))) (b ∷ l) ∷ laterParts mark (drop (cond t zero (suc (lengthTo mark l))) (b ∷ l))
 first true mark b l e = refl
 first false mark b l e = rw e
 
@@ -40,7 +39,7 @@ pub length-none : (mark : ℕ) (s : List ℕ) (i : ℕ) → length s ≤ i → l
 unfolding lengthTo
 length-none mark s i h = rw (drop-of-length-le s h)
 
-bounded : (t : Bool) (n m : ℕ) → n ≤ m → choose t zero (suc n) ≤ suc m
+bounded : (t : Bool) (n m : ℕ) → n ≤ m → cond t zero (suc n) ≤ suc m
 bounded true n m h = omega arith
 bounded false n m h = omega arith
 

@@ -1,5 +1,5 @@
 -- Document 01, module 7 and "order": 5 for the first bad token in the text's order, then 4 for over 16 values before any `?`.
-use mathlib.Core.Bool.{Bool, true, false}
+use mathlib.Core.Bool.{Bool, true, false, cond}
 use mathlib.Core.List.{List, [], _∷_}
 use Prim.Native.Nat.{ℕ, _+_, _-_}
 use lib.Dec.{ltb, eqb}
@@ -10,7 +10,7 @@ use Rattle.ratio.specs.declared.Reason.the-variants as R
 use Rattle.tokens.specs.declared.Height.{Height}
 use Rattle.tokens.specs.declared.Token.{Token}
 use Rattle.tokens.specs.declared.Token.the-variants.{Const, Var, Add, Sub, Mul, Neg, Pow, Other, Malformed}
-use Rattle.tokens.specs.Spelling.{choose, tokenOf}
+use Rattle.tokens.specs.Spelling.{tokenOf}
 use Rattle.tokens.specs.Words.{wordsOf}
 
 -- how many values a token takes off the stack
@@ -49,28 +49,28 @@ isMalformed Malformed = true
 
 -- a bad token: one that is misspelled or, before any `?`, takes more values than there are
 abbrev pub isBad : Token → Height → Bool
-isBad t h = choose (isMalformed t) true (choose (h .past) false (ltb (h .values) (takes t)))
+isBad t h = cond (isMalformed t) true (cond (h .past) false (ltb (h .values) (takes t)))
 
 -- a token puts one value in the place of those that it takes; from a `?` on values aren't counted
 abbrev pub after : Token → Height → Height
 after t h =
-    choose (h .past) h
-    (choose (isOther t) (record { values = h .values; deep = h .deep; past = true })
-    (record { values = h .values - takes t + 1; deep = choose (h .deep) true (ltb 16 (h .values - takes t + 1)); past = false }))
+    cond (h .past) h
+    (cond (isOther t) (record { values = h .values; deep = h .deep; past = true })
+    (record { values = h .values - takes t + 1; deep = cond (h .deep) true (ltb 16 (h .values - takes t + 1)); past = false }))
 
 -- over 16 values is 4
 abbrev pub roomOf : Height → Outcome
-roomOf h = choose (h .deep) (O.Refused R.TooLong) O.Done
+roomOf h = cond (h .deep) (O.Refused R.TooLong) O.Done
 
 -- at the text's end one value is left, or a token is missing
 abbrev pub finish : ℕ → Height → Outcome
-finish end h = choose (h .past) (roomOf h) (choose (eqb (h .values) 1) (roomOf h) (O.Refused (R.Malformed end)))
+finish end h = cond (h .past) (roomOf h) (cond (eqb (h .values) 1) (roomOf h) (O.Refused (R.Malformed end)))
 
 -- the rest of the words, of which the first starts at a place
 unfoldable pub checkFrom : ℕ → ℕ → Height → List (List ℕ) → Outcome
 checkFrom end at h [] = finish end h
 checkFrom end at h (w ∷ ws) =
-    choose (isBad (tokenOf w) h) (O.Refused (R.Malformed at))
+    cond (isBad (tokenOf w) h) (O.Refused (R.Malformed at))
     (checkFrom end (at + length w + 1) (after (tokenOf w) h) ws)
 
 abbrev pub bare : Height
