@@ -1,9 +1,11 @@
 -- One call of the bisection: each way it can go, whatever was found before.
 use mathlib.Core.Path.{_≡_, refl, sym, ap, _∙_}
-use mathlib.Core.Bool.{Bool, true, false}
+use mathlib.Core.Bool.{Bool, true, false, cond, true≢false}
 use mathlib.Core.List.{List}
 use Prim.Native.Nat.{ℕ, zero, suc, _-_, _≤_, _<_}
 use native.Mathlib.Omega.{arith}
+use borrow.Author.Tests.{eqb-true, eqb-false}
+use lib.Dec.{eqb}
 use lib.Ieee.{Float, binary64, sub, lt}
 use Rattle.ratio.specs.declared.Reason.the-variants.{TooDeep}
 use Rattle.yun.specs.Got.{Got, got, none, thenGot}
@@ -49,10 +51,10 @@ then-split : (g : Found) (s : Cut) (x y : List Bracket → Found)
 then-split (got l) s x y = refl
 then-split (none why) s x y = refl
 
-then-partly : (g : Found) (e : Bool) (x : List Bracket → Found) → e ≡ true → thenGot g (λ l. partly e x l) ≡ thenGot g x
+pub then-partly : (g : Found) (e : Bool) (x : List Bracket → Found) → e ≡ true → thenGot g (λ l. partly e x l) ≡ thenGot g x
 then-partly g e x h = then-like g (λ l. partly e x l) x (λ l. ap (λ (b : Bool). partly b x l) h)
 
-then-missing : (g : Found) (e : Bool) (x : List Bracket → Found) → e ≡ false → thenGot g (λ l. partly e x l) ≡ g
+pub then-missing : (g : Found) (e : Bool) (x : List Bracket → Found) → e ≡ false → thenGot g (λ l. partly e x l) ≡ g
 then-missing g e x h = sym (then-none g (λ l. partly e x l) (λ l. ap (λ (b : Bool). partly b x l) h))
 
 -- ---- one call
@@ -72,13 +74,29 @@ module _ (k : ℕ) (c : List (List Float)) (a b tol : Float) (g : Found) where
   pub inner-none : countIn c a b ≡ 0 → g ≡ all
   inner-none h = then-none g (λ l. innerOf k c a b tol l) (λ l. inner-is l (got l) (λ z. decided-none (countIn c a b) _ _ _ z h))
 
-  pub inner-one : countIn c a b ≡ 1 → thenGot g (λ l. pushed a b l) ≡ all
+  inner-one : countIn c a b ≡ 1 → thenGot g (λ l. pushed a b l) ≡ all
   inner-one h = then-like g (λ l. pushed a b l) (λ l. innerOf k c a b tol l) (λ l. sym (inner-is l (pushed a b l) (λ z. decided-one (countIn c a b) _ _ _ z h)))
 
-  module _ (h : 2 ≤ countIn c a b) where
-    pub inner-narrow : lt (sub binary64 b a) tol ≡ true → thenGot g (λ l. pushed a b l) ≡ all
-    inner-narrow w = then-like g (λ l. pushed a b l) (λ l. innerOf k c a b tol l) (λ l. sym (inner-is l (pushed a b l) (λ z. decided-narrow (countIn c a b) _ _ _ z h w)))
+  inner-narrow : 2 ≤ countIn c a b → lt (sub binary64 b a) tol ≡ true → thenGot g (λ l. pushed a b l) ≡ all
+  inner-narrow h w = then-like g (λ l. pushed a b l) (λ l. innerOf k c a b tol l) (λ l. sym (inner-is l (pushed a b l) (λ z. decided-narrow (countIn c a b) _ _ _ z h w)))
 
+  -- a bracket as it is
+  pub inner-stays : (n : ℕ) → n ≡ countIn c a b → (n ≡ 0 → ⊥) → cond (eqb n 1) true (lt (sub binary64 b a) tol) ≡ true → thenGot g (λ l. pushed a b l) ≡ all
+  inner-stays n e h w = by (eqb n 1) refl w
+    where
+      by : (t : Bool) → eqb n 1 ≡ t → cond t true (lt (sub binary64 b a) tol) ≡ true → thenGot g (λ l. pushed a b l) ≡ all
+      by true q v = inner-one (sym e ∙ eqb-true n 1 q)
+      by false q v = inner-narrow (omega (arith, e, h, eqb-false n 1 q)) v
+
+  -- a stretch to split
+  pub inner-goes : (n : ℕ) → n ≡ countIn c a b → (n ≡ 0 → ⊥) → cond (eqb n 1) true (lt (sub binary64 b a) tol) ≡ false → (2 ≤ countIn c a b) × (lt (sub binary64 b a) tol ≡ false)
+  inner-goes n e h w = by (eqb n 1) refl w
+    where
+      by : (t : Bool) → eqb n 1 ≡ t → cond t true (lt (sub binary64 b a) tol) ≡ false → (2 ≤ countIn c a b) × (lt (sub binary64 b a) tol ≡ false)
+      by true q v = absurd (true≢false v)
+      by false q v = (omega (arith, e, h, eqb-false n 1 q), v)
+
+  module _ (h : 2 ≤ countIn c a b) where
     module _ (w : lt (sub binary64 b a) tol ≡ false) where
       deep-is : (k : ℕ) (l : List Bracket) → k ≡ 0 → innerOf k c a b tol l ≡ none TooDeep
       unfolding innerOf
@@ -111,26 +129,10 @@ module _ (k : ℕ) (c : List (List Float)) (a b tol : Float) (g : Found) where
               ∙ then-split g s lower upper
               ∙ then-like g (λ l. splitBy s lower upper l) (λ l. innerOf k c a b tol l) (λ l. split-is k l e)
 
-          pub inner-both : s .left ≡ true → s .right ≡ true → (first : Found) → first ≡ thenGot now lower → thenGot first upper ≡ all
-          inner-both x y first f =
-              sym (then-partly first (s .right) upper y)
-              ∙ ap (λ (n : Found). thenGot n (λ l. partly (s .right) upper l)) (f ∙ sym (then-partly now (s .left) lower x))
-              ∙ parts
+          -- with what is found in the left part
+          module _ (first : Found) (f : first ≡ thenGot now (λ l. partly (s .left) lower l)) where
+            pub inner-right : s .right ≡ true → thenGot first upper ≡ all
+            inner-right y = sym (then-partly first (s .right) upper y) ∙ ap (λ (n : Found). thenGot n (λ l. partly (s .right) upper l)) f ∙ parts
 
-          pub inner-left : s .left ≡ true → s .right ≡ false → thenGot now lower ≡ all
-          inner-left x y =
-              sym (then-partly now (s .left) lower x)
-              ∙ sym (then-missing (thenGot now (λ l. partly (s .left) lower l)) (s .right) upper y)
-              ∙ parts
-
-          pub inner-right : s .left ≡ false → s .right ≡ true → thenGot now upper ≡ all
-          inner-right x y =
-              sym (then-partly now (s .right) upper y)
-              ∙ ap (λ (n : Found). thenGot n (λ l. partly (s .right) upper l)) (sym (then-missing now (s .left) lower x))
-              ∙ parts
-
-          pub inner-neither : s .left ≡ false → s .right ≡ false → now ≡ all
-          inner-neither x y =
-              sym (then-missing now (s .left) lower x)
-              ∙ sym (then-missing (thenGot now (λ l. partly (s .left) lower l)) (s .right) upper y)
-              ∙ parts
+            pub inner-end : s .right ≡ false → first ≡ all
+            inner-end y = sym (then-missing first (s .right) upper y) ∙ ap (λ (n : Found). thenGot n (λ l. partly (s .right) upper l)) f ∙ parts

@@ -4,10 +4,11 @@ use chain::Chain;
 use ratio::Outcome;
 use ratio::Reason;
 ghost use mathlib.Core.Path.{_≡_};
-ghost use mathlib.Core.Bool.{false};
+ghost use mathlib.Core.Bool.{true, false, cond};
 ghost use mathlib.Core.List.{List, []};
 ghost use Prim.Native.Nat.{_≤_};
-ghost use lib.Ieee.{Float};
+ghost use lib.Dec.{eqb};
+ghost use lib.Ieee.{Float, lt};
 ghost use lib.ListN.{length, take};
 ghost use Rattle.chain.specs.Answer.{entriesOf};
 ghost use Rattle.sturm.specs.Along.{rowsOf};
@@ -179,6 +180,13 @@ fn beyond(values: &[f64], sizes: &[usize], s: Cut, lo: End) -> End
 
 // ---- halving
 
+// A stretch with one root, or narrower than the tolerance, is a bracket as it is.
+fn stays(n: usize, width: f64, tol: f64) -> bool
+    ensures { λ r. ⌜ r ≡ cond (eqb n 1) true (lt width tol) ⌝ }
+{
+    if n == 1 { true } else { width < tol }
+}
+
 // The brackets between a and b behind those found, the left part first; `depth` says how many more splits there may be.
 fn bisect_isolate_inner(
     values: &[f64],
@@ -186,7 +194,7 @@ fn bisect_isolate_inner(
     a: End,
     b: End,
     tol: f64,
-    mut found: Brackets,
+    found: Brackets,
     depth: usize,
 ) -> Brackets
     requires { ⌜ Kept found × (a ≡ endOf (rowsIn (now values) (now sizes)) (a .at)) × (b ≡ endOf (rowsIn (now values) (now sizes)) (b .at)) ⌝ }
@@ -200,29 +208,21 @@ fn bisect_isolate_inner(
     if n == 0 {
         return found;
     }
-    if n == 1 {
-        return push(found, a.at, b.at);
-    }
-    if b.at - a.at < tol {
+    if stays(n, b.at - a.at, tol) {
         return push(found, a.at, b.at);
     }
     if depth == 0 {
         return refused(Reason::TooDeep);
     }
     let s = split_at(values, sizes, a.at, b.at, tol);
-    let now = mark(found, s.exact, s.mid);
+    let mut now = mark(found, s.exact, s.mid);
     let lo = end_at(values, sizes, s.lo);
     let hi = beyond(values, sizes, s, lo);
     if s.left {
-        // Kept where the earlier ones were: a level of the recursion has no room to waste.
-        found = bisect_isolate_inner(values, sizes, a, lo, tol, now, depth - 1);
-        if s.right {
-            return bisect_isolate_inner(values, sizes, hi, b, tol, found, depth - 1);
-        }
-        return found;
+        now = bisect_isolate_inner(values, sizes, a, lo, tol, now, depth - 1);
     }
     if s.right {
-        return bisect_isolate_inner(values, sizes, hi, b, tol, now, depth - 1);
+        now = bisect_isolate_inner(values, sizes, hi, b, tol, now, depth - 1);
     }
     now
 }

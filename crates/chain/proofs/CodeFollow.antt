@@ -17,13 +17,17 @@ use Rattle.yun.proofs.CodeGot.{made-poly}
 use Rattle.chain.specs.declared.Chain.{Chain}
 use Rattle.chain.specs.Next.{nextOf}
 use Rattle.chain.specs.Sequence.{before, behind}
-use Rattle.chain.specs.Answer.{holding, refusedFor, chainOf, Links, added}
+use Rattle.chain.specs.Answer.{holding, refusedFor, chainOf, Links}
 use Rattle.chain.proofs.CodeNext.{link-got, link-none, next-short}
 
 -- ---- one entry more
 
 filled : (l : List Poly) (x z : Poly) (n k m : ℕ) → n ≡ length l → k ≡ suc m → set (l ++ replicate k z) n x ≡ (l ++ (x ∷ [])) ++ replicate m z
 filled l x z n k m d e = rw (d, e, append-assoc) (set-append-seam l z (replicate m z) x)
+
+-- one more
+abbrev added : Chain → Poly → Chain
+added c p = record { outcome = c .outcome; polys = set (c .polys) (c .len) p; len = c .len + 1 }
 
 pub added-holding : (l : List (List Ratio)) (p : Poly) → length l < 32 → p ≡ polyOf (termsOf p) → added (holding l) p ≡ holding (l ++ (termsOf p ∷ []))
 added-holding l p h e =
@@ -67,10 +71,10 @@ pub record Going (p d : List Ratio) (out : Chain) (a : List Ratio) (b : Poly) : 
   pub room : length found + 1 + length (termsOf b) ≤ 32
   pub whole : front found (behind fuel a (termsOf b)) ≡ behind (length d) p d
 
-pub going-none : (p d : Poly) (first out : Chain) → p ≡ polyOf (termsOf p) → d ≡ polyOf (termsOf d) → length (termsOf d) < 32 → first ≡ holding [] → out ≡ added first p → Going (termsOf p) (termsOf d) out (termsOf p) d
+pub going-none : (p d : Poly) (first out : Chain) → p ≡ polyOf (termsOf p) → d ≡ polyOf (termsOf d) → length (termsOf d) < 32 → first ≡ holding [] → out ≡ record { outcome = first .outcome; polys = set (first .polys) 0 p; len = 1 } → Going (termsOf p) (termsOf d) out (termsOf p) d
 going-none p d first out e f h k o = record {
   found = [];
-  is = o ∙ ap (λ (c : Chain). added c p) k ∙ added-holding [] p (omega arith) e;
+  is = o ∙ ap {B = Chain} (λ (c : Chain). record { outcome = c .outcome; polys = set (c .polys) 0 p; len = 1 }) k ∙ added-holding [] p (omega arith) e;
   made = f;
   fuel = length (termsOf d);
   enough = omega arith;

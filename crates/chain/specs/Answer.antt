@@ -1,13 +1,12 @@
 -- Document 01, "choosing the form by place": an array by value of 32 polynomials. A refused chain is empty.
 use mathlib.Core.Path.{_≡_}
 use mathlib.Core.List.{List, [], _++_, map}
-use Prim.Native.Nat.{_+_, _-_, _<_}
-use lib.ListN.{length, take, set, replicate}
+use Prim.Native.Nat.{_-_}
+use lib.ListN.{length, take, replicate}
 use Rattle.ratio.specs.declared.Outcome.the-variants as O
 use Rattle.ratio.specs.declared.Ratio.{Ratio}
 use Rattle.ratio.specs.declared.Reason.{Reason}
 use Rattle.terms.specs.declared.Answer.{Answer}
-use Rattle.terms.specs.declared.Poly.{Poly}
 use Rattle.terms.specs.Poly.{termsOf, polyOf}
 use Rattle.yun.specs.Got.{Got, got, none}
 use Rattle.chain.specs.declared.Chain.{Chain}
@@ -30,10 +29,3 @@ chainOf (none why) = refusedFor why
 abbrev pub Links : Got (List Ratio) → Answer → Type 0
 Links (got l) r = (r .outcome ≡ O.Done) × (r .poly ≡ polyOf l)
 Links (none why) r = r .outcome ≡ O.Refused why
-
--- there is a place for one more
-abbrev pub Room : Chain → Type 0
-Room c = c .len < 32
-
-abbrev pub added : Chain → Poly → Chain
-added c p = record { outcome = c .outcome; polys = set (c .polys) (c .len) p; len = c .len + 1 }

@@ -11,7 +11,7 @@ ghost use lib.ListN.{length};
 ghost use Rattle.terms.specs.Poly.{termsOf, polyOf};
 ghost use Rattle.chain.specs.Next.{nextOf};
 ghost use Rattle.chain.specs.Sequence.{behind, sequenceOf};
-ghost use Rattle.chain.specs.Answer.{Links, refusedFor, holding, chainOf, Room, added};
+ghost use Rattle.chain.specs.Answer.{Links, refusedFor, holding, chainOf};
 
 // The polynomials of the chain, or why there are none.
 pub struct Chain {
@@ -40,17 +40,6 @@ fn empty() -> Chain
     }
 }
 
-fn push(chain: Chain, p: Poly) -> Chain
-    requires { ⌜ Room chain ⌝ }
-    ensures { λ r. ⌜ r ≡ added chain p ⌝ }
-{
-    let mut out = chain;
-    let n = out.len;
-    out.polys[n] = p;
-    out.len = n + 1;
-    out
-}
-
 // The negated remainder of a by b.
 fn next(a: Poly, b: Poly) -> Answer
     ensures { λ r. ⌜ Links (nextOf (termsOf a) (termsOf b)) r ⌝ }
@@ -69,11 +58,13 @@ fn follow(p: Poly, d: Poly) -> Chain
     requires { ⌜ (p ≡ polyOf (termsOf p)) × (d ≡ polyOf (termsOf d)) × (length (termsOf d) < 32) ⌝ }
     ensures { λ r. ⌜ r ≡ chainOf (behind (length (termsOf d)) (termsOf p) (termsOf d)) ⌝ }
 {
-    let mut out = push(empty(), p);
+    // Entries are laid in place: a function that takes the chain would copy it.
+    let mut out = empty();
+    out.polys[0] = p;
+    out.len = 1;
     let mut a = p;
     let mut b = d;
     while b.length() > 0 {
-        // Not by `push`, which would copy the whole chain for each entry.
         let n = out.len;
         out.polys[n] = b;
         out.len = n + 1;

@@ -18,15 +18,14 @@ abbrev μ-loop : tie.MeasureT-loop
 empty-requires : tie.Need-empty-requires Inv-loop μ-loop
 empty-requires c κs = tt
 
-push-requires : tie.Need-push-requires Inv-loop μ-loop
-push-requires c κs = omega (arith, ap (λ (x : Chain). x .len) (c .empty .ensures))
+element-set-from-p : tie.Need-element-set-from-p Inv-loop μ-loop
+element-set-from-p c = omega arith
 
 loop-holds : tie.Need-loop-holds Inv-loop μ-loop
 loop-holds c =
-    let e = c .before in
-    let s = e .before .args in
-    let r = e .before .pre in
-    going-none (s .p) (s .d) (e .empty .result) (c .push .result) (r .0) (r .1) (r .2) (e .empty .ensures) (c .push .ensures)
+    let s = c .before .args in
+    let r = c .before .pre in
+    going-none (s .p) (s .d) (c .empty .result) _ (r .0) (r .1) (r .2) (c .empty .ensures) refl
 
 length-requires : tie.Need-length-requires Inv-loop μ-loop
 length-requires c κs = tt
@@ -34,7 +33,7 @@ length-requires c κs = tt
 room : (c : tie.Then1 Inv-loop μ-loop) → c .before .before .loop .out .len < 32
 room c =
     let l = c .before .before in
-    let s = l .before .before .before .args in
+    let s = l .before .before .args in
     going-room (termsOf (s .p)) (termsOf (s .d)) (l .loop .out) (termsOf (l .loop .a)) (l .loop .b) (l .loop .inv) (omega (arith, c .before .length .ensures))
 
 mul-b : tie.Need-mul-b Inv-loop μ-loop
@@ -58,7 +57,7 @@ refused-requires c κs = tt
 returns : tie.Need-returns Inv-loop μ-loop
 returns c =
     let l = c .before .before .before .before .before .before .before in
-    let s = l .before .before .before .args in
+    let s = l .before .before .args in
     c .refused .ensures ∙ going-refused (termsOf (s .p)) (termsOf (s .d)) (l .loop .out) (termsOf (l .loop .a)) (l .loop .b) (l .loop .inv) (omega (arith, c .before .before .before .before .before .before .length .ensures)) (c .before .before .before .before .next .result) (c .before .before .before .before .next .ensures) _ (c .before .before .o .given .1)
 
 enum-told : tie.Need-enum-told Inv-loop μ-loop
@@ -67,19 +66,19 @@ enum-told c = c .match .keys2
 loop-less : tie.Need-loop-less Inv-loop μ-loop
 loop-less c =
     let l = c .before .before .before .before .before .before in
-    let s = l .before .before .before .args in
+    let s = l .before .before .args in
     going-short (termsOf (s .p)) (termsOf (s .d)) (l .loop .out) (termsOf (l .loop .a)) (l .loop .b) (l .loop .inv) (omega (arith, c .before .before .before .before .before .length .ensures)) (c .before .before .before .next .result) (c .before .before .before .next .ensures) (c .before .enum-told .given .1)
 
 loop-again : tie.Need-loop-again Inv-loop μ-loop
 loop-again c =
     let l = c .before .before .before .before .before .before in
-    let s = l .before .before .before .args in
+    let s = l .before .before .args in
     going-more (termsOf (s .p)) (termsOf (s .d)) (l .loop .out) (termsOf (l .loop .a)) (l .loop .b) (l .loop .inv) (omega (arith, c .before .before .before .before .before .length .ensures)) (c .before .before .before .next .result) (c .before .before .before .next .ensures) _ refl (c .before .enum-told .given .1)
 
 returns-2 : tie.Need-returns-2 Inv-loop μ-loop
 returns-2 c =
     let l = c .before .before in
-    let s = l .before .before .before .args in
+    let s = l .before .before .args in
     going-end (termsOf (s .p)) (termsOf (s .d)) (l .loop .out) (termsOf (l .loop .a)) (l .loop .b) (l .loop .inv) (omega (arith, c .before .length .ensures))
 
 pub follow-spec : {M : Type 1} → statement M
@@ -89,7 +88,7 @@ follow-spec =
     Inv-loop
     μ-loop
     empty-requires
-    push-requires
+    element-set-from-p
     loop-holds
     length-requires
     mul-b
