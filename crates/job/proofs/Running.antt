@@ -13,7 +13,7 @@ use Rattle.request.specs.declared.Request.{Request}
 use Rattle.request.specs.Request.{requestOf}
 use Rattle.job.specs.declared.Ran.{Ran}
 use Rattle.job.specs.Job.{Reply, workOf, replyTo}
-use Rattle.job.specs.Laid.{Lays}
+use Rattle.job.specs.Laid.{LaysReply}
 use Rattle.job.specs.Run.{noRoom, ranIn, writtenOn, FitsPage}
 
 -- a text with room stands in front of the page
@@ -22,13 +22,13 @@ in-front s page h =
     let e : 0 + length s ≡ length s = omega arith in
     rw e at (laid-fits s 0 page (omega arith))
 
-module _ (s : List ℕ) (q : Request) (e : q ≡ requestOf s) (entry exit : List ℕ) (t : Ran) (l : Lays (workOf q) entry exit t) (n : length entry ≡ 4096) where
+module _ (s : List ℕ) (q : Request) (e : q ≡ requestOf s) (entry exit : List ℕ) (t : Ran) (l : LaysReply (workOf q) entry exit t) (n : length entry ≡ 4096) where
   abbrev text : List ℕ
   text = replyTo s .text
 
-  lies : Lays (replyTo s) entry exit t
+  lies : LaysReply (replyTo s) entry exit t
   unfolding replyTo
-  lies = subst (λ (x : Request). Lays (workOf x) entry exit t) e l
+  lies = subst (λ (x : Request). LaysReply (workOf x) entry exit t) e l
 
   pub fits : FitsPage s
   fits = lies .fits

@@ -7,7 +7,7 @@ use Rattle.text.specs.Page.{laid, after}
 use Rattle.job.specs.declared.Ran.{Ran}
 use Rattle.job.specs.Job.{Reply}
 
-pub record Lays (r : Reply) (entry exit : List ℕ) (t : Ran) : Type 0 where
+pub record LaysReply (r : Reply) (entry exit : List ℕ) (t : Ran) : Type 0 where
   pub outcome : t .outcome ≡ r .outcome
   pub place : t .len ≡ after (r .text) 0 entry
   pub page : exit ≡ laid (r .text) 0 entry

@@ -17,7 +17,7 @@ ghost use lib.ListN.{length};
 ghost use Rattle.job.specs.Job.{refusing, answering, dividing, numbering, valuing, rooting, factoring, counting, isolating, outcomeOf, workFor, workOf, replyTo};
 ghost use Rattle.factor.specs.Factors.{factorFor};
 ghost use Rattle.request.specs.Request.{requestOf};
-ghost use Rattle.job.specs.Laid.{Lays};
+ghost use Rattle.job.specs.Laid.{LaysReply};
 ghost use Rattle.job.specs.Run.{ranIn, writtenOn, FitsPage, placeIn};
 
 // What came of a job: its outcome, with the place of what is malformed, and how many bytes its answer has.
@@ -29,7 +29,7 @@ pub struct Ran {
 // ---- one function a kind of result
 
 fn refuse(op: Op, why: Reason, page: &mut [u8]) -> Ran
-    ensures { λ r. ⌜ Lays (refusing op why) (now (page .entry)) (now (page .exit)) r ⌝ }
+    ensures { λ r. ⌜ LaysReply (refusing op why) (now (page .entry)) (now (page .exit)) r ⌝ }
 {
     Ran {
         outcome: Outcome::Refused(why),
@@ -38,7 +38,7 @@ fn refuse(op: Op, why: Reason, page: &mut [u8]) -> Ran
 }
 
 fn answer(op: Op, a: Answer, page: &mut [u8]) -> Ran
-    ensures { λ r. ⌜ Lays (answering op a) (now (page .entry)) (now (page .exit)) r ⌝ }
+    ensures { λ r. ⌜ LaysReply (answering op a) (now (page .entry)) (now (page .exit)) r ⌝ }
 {
     let outcome = a.outcome;
     Ran {
@@ -48,7 +48,7 @@ fn answer(op: Op, a: Answer, page: &mut [u8]) -> Ran
 }
 
 fn division(op: Op, d: Division, page: &mut [u8]) -> Ran
-    ensures { λ r. ⌜ Lays (dividing op d) (now (page .entry)) (now (page .exit)) r ⌝ }
+    ensures { λ r. ⌜ LaysReply (dividing op d) (now (page .entry)) (now (page .exit)) r ⌝ }
 {
     let outcome = d.outcome;
     Ran {
@@ -58,7 +58,7 @@ fn division(op: Op, d: Division, page: &mut [u8]) -> Ran
 }
 
 fn number(op: Op, w: Whole, page: &mut [u8]) -> Ran
-    ensures { λ r. ⌜ Lays (numbering op w) (now (page .entry)) (now (page .exit)) r ⌝ }
+    ensures { λ r. ⌜ LaysReply (numbering op w) (now (page .entry)) (now (page .exit)) r ⌝ }
 {
     let outcome = w.outcome;
     Ran {
@@ -77,7 +77,7 @@ fn outcome_of(s: Step) -> Outcome
 }
 
 fn value(op: Op, s: Step, page: &mut [u8]) -> Ran
-    ensures { λ r. ⌜ Lays (valuing op s) (now (page .entry)) (now (page .exit)) r ⌝ }
+    ensures { λ r. ⌜ LaysReply (valuing op s) (now (page .entry)) (now (page .exit)) r ⌝ }
 {
     let outcome = outcome_of(s);
     Ran {
@@ -87,7 +87,7 @@ fn value(op: Op, s: Step, page: &mut [u8]) -> Ran
 }
 
 fn roots(op: Op, x: Roots, page: &mut [u8]) -> Ran
-    ensures { λ r. ⌜ Lays (rooting op x) (now (page .entry)) (now (page .exit)) r ⌝ }
+    ensures { λ r. ⌜ LaysReply (rooting op x) (now (page .entry)) (now (page .exit)) r ⌝ }
 {
     let outcome = x.outcome;
     Ran {
@@ -98,7 +98,7 @@ fn roots(op: Op, x: Roots, page: &mut [u8]) -> Ran
 
 // That the answer fits the page rests on the engine's promise of what it hands back, so the work is done here.
 fn factors(op: Op, p: Poly, budget: u64, page: &mut [u8]) -> Ran
-    ensures { λ r. ⌜ Lays (factoring op (factorFor p budget)) (now (page .entry)) (now (page .exit)) r ⌝ }
+    ensures { λ r. ⌜ LaysReply (factoring op (factorFor p budget)) (now (page .entry)) (now (page .exit)) r ⌝ }
 {
     let f = factor::factor(p, budget);
     let outcome = f.outcome;
@@ -109,7 +109,7 @@ fn factors(op: Op, p: Poly, budget: u64, page: &mut [u8]) -> Ran
 }
 
 fn count(op: Op, c: Count, page: &mut [u8]) -> Ran
-    ensures { λ r. ⌜ Lays (counting op c) (now (page .entry)) (now (page .exit)) r ⌝ }
+    ensures { λ r. ⌜ LaysReply (counting op c) (now (page .entry)) (now (page .exit)) r ⌝ }
 {
     let outcome = c.outcome;
     Ran {
@@ -119,7 +119,7 @@ fn count(op: Op, c: Count, page: &mut [u8]) -> Ran
 }
 
 fn isolation(op: Op, x: Isolation, page: &mut [u8]) -> Ran
-    ensures { λ r. ⌜ Lays (isolating op x) (now (page .entry)) (now (page .exit)) r ⌝ }
+    ensures { λ r. ⌜ LaysReply (isolating op x) (now (page .entry)) (now (page .exit)) r ⌝ }
 {
     let outcome = x.outcome;
     Ran {
@@ -131,7 +131,7 @@ fn isolation(op: Op, x: Isolation, page: &mut [u8]) -> Ran
 // ---- the operations
 
 fn work(r: Request, page: &mut [u8]) -> Ran
-    ensures { λ t. ⌜ Lays (workFor (r .op) r) (now (page .entry)) (now (page .exit)) t ⌝ }
+    ensures { λ t. ⌜ LaysReply (workFor (r .op) r) (now (page .entry)) (now (page .exit)) t ⌝ }
 {
     let op = r.op;
     let a = r.a;
@@ -157,7 +157,7 @@ fn work(r: Request, page: &mut [u8]) -> Ran
 }
 
 fn reply_to(r: Request, page: &mut [u8]) -> Ran
-    ensures { λ t. ⌜ Lays (workOf r) (now (page .entry)) (now (page .exit)) t ⌝ }
+    ensures { λ t. ⌜ LaysReply (workOf r) (now (page .entry)) (now (page .exit)) t ⌝ }
 {
     let o = r.outcome;
     let op = r.op;
