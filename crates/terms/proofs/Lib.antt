@@ -1,4 +1,5 @@
 pub mod Lists
+pub mod Pairs
 pub mod Each
 pub mod Value
 pub mod Rows

@@ -5,8 +5,10 @@ use mathlib.Core.List.{List, [], _∷_, _++_, map, append-assoc, append-nil}
 use Prim.Native.Nat.{ℕ, zero, suc, _+_, _-_, _<_, _≤_, min}
 use native.Mathlib.Numerals.{add-one}
 use native.Mathlib.Omega.{arith}
+use borrow.Author.Tests.{ltb-true, ltb-false}
+use lib.Dec.{ltb}
 use lib.IntN.{pos}
-use lib.ListN.{length, take, getD, set, replicate, length-take, length-map, replicate-append-replicate}
+use lib.ListN.{length, take, getD, set, replicate, length-take, length-map, replicate-append-replicate, List·getD-eq-default}
 use lib.Seq.{take-append-seam, take-nil, take-suc, take-suc-set, take-all, take-take, getD-take, length-take-le}
 use Rattle.ratio.specs.Refusal.{zeroR}
 use Rattle.ratio.specs.Step.{isNil}
@@ -38,6 +40,20 @@ pub read-terms : {X : Type 0} (n : ℕ) (l : List X) (i : ℕ) (d e : X) → i <
 read-terms n l i d e h =
     let k : i < min n (length l) = rw length-take at h in
     getD-any l i d e (omega arith) ∙ sym (getD-take n l i e (omega arith))
+
+-- a coefficient that is read where it is in use, and zero past the end
+module _ {X : Type 0} (n : ℕ) (l : List X) (i a : ℕ) (d e r : X) (h : a ≡ length (take n l)) (p : i < a → r ≡ getD l i d) (q : a ≤ i → r ≡ e) where
+  used-by : (t : Bool) → ltb i a ≡ t → r ≡ getD (take n l) i e
+  used-by true f =
+      let k : i < a = ltb-true i a f in
+      p k ∙ read-terms n l i d e (omega arith)
+  used-by false f =
+      let k : a ≤ i = ltb-false i a f in
+      let m : length (take n l) ≤ i = omega arith in
+      q k ∙ sym (List·getD-eq-default (take n l) e m)
+
+  pub used-terms : r ≡ getD (take n l) i e
+  used-terms = used-by (ltb i a) refl
 
 -- the coefficients in use are as many as their number says
 pub take-terms : {X : Type 0} (n : ℕ) (l : List X) (k : ℕ) → k ≡ length (take n l) → take k l ≡ take n l

@@ -1,8 +1,8 @@
--- Laws of the product: spare places behind it stay as they are, and a loop that has added the first i rows, its turn, its end and its refusals.
+-- Laws of the product: spare places behind it stay as they are, and a loop that has added i rows and j places of the next, its turns, its end and its refusals.
 use mathlib.Core.Path.{_≡_, refl, sym, ap, _∙_}
 use mathlib.Core.Bool.{Bool, true, false}
 use mathlib.Core.List.{List, [], _∷_, _++_}
-use Prim.Native.Nat.{ℕ, _+_, _-_, _<_, _≤_}
+use Prim.Native.Nat.{ℕ, suc, _+_, _-_, _<_, _≤_}
 use native.Mathlib.Numerals.{add-one}
 use native.Mathlib.Omega.{arith}
 use borrow.Author.Tests.{lt-ltb, le-ltb, lt-leb, le-leb}
@@ -10,6 +10,9 @@ use lib.ListN.{length, take, drop, getD, set, replicate, length-set, length-repl
 use lib.Seq.{drop-cons, set-append-left, take-at}
 use Rattle.ratio.specs.Refusal.{zeroR}
 use Rattle.ratio.specs.declared.Ratio.{Ratio}
+use Rattle.ratio.specs.Step.{addOf, mulOf}
+use Rattle.ratio.specs.declared.Reason.{Reason}
+use Rattle.ratio.specs.declared.Step.the-variants.{Done, Refused}
 use Rattle.ratio.specs.declared.Reason.the-variants.{CoeffOverflow, TooLong}
 use Rattle.terms.specs.declared.Row.{Row}
 use Rattle.terms.specs.Poly.{dropTop, polyOf, trim}
@@ -63,27 +66,54 @@ row-over (over k) w e t = rw e
 
 -- ---- the loop
 
+-- what is left of row k once its first j places are added, and of the rows after it
+abbrev left : List Ratio → List Ratio → ℕ → ℕ → List Ratio → ℕ → Ran ℕ (List Ratio)
+left [] b k j acc steps = fine steps acc
+left (x ∷ a) b k j acc steps = andThen (rowed plain plus acc (k + j) x (drop j b) steps) (λ steps acc. rows plain acc (k + 1) a b steps)
+
+left-whole : (a b : List Ratio) (k : ℕ) (acc : List Ratio) (steps : ℕ) → left a b k 0 acc steps ≡ rows plain acc k a b steps
+unfolding rows
+left-whole [] b k acc steps = refl
+left-whole (x ∷ a) b k acc steps =
+    let e : k + 0 ≡ k = omega arith in
+    rw e
+
 module _ (a b : List Ratio) where
-  -- what is left of the rows gives the whole product, in 32 places
-  pub record Summed (i steps : ℕ) (acc : List Ratio) : Type 0 where
-    pub whole : rows plain acc i (drop i a) b steps ≡ rows plain (replicate 32 zeroR) 0 a b 0
+  -- what is left gives the whole product, in 32 places
+  pub record Summed (i j steps : ℕ) (acc : List Ratio) : Type 0 where
+    pub whole : left (drop i a) b i j acc steps ≡ rows plain (replicate 32 zeroR) 0 a b 0
 
-  pub summed-none : Summed 0 0 (replicate 32 zeroR)
-  summed-none = record { whole = refl }
+  pub summed-none : Summed 0 0 0 (replicate 32 zeroR)
+  summed-none = record { whole = left-whole a b 0 (replicate 32 zeroR) 0 }
 
-  module _ (i steps : ℕ) (acc : List Ratio) (h : i < length a) (s : Summed i steps acc) where
-    pub summed-more : (steps′ : ℕ) (acc′ : List Ratio) → rowed plain plus acc i (getD a i zeroR) b steps ≡ fine steps′ acc′ → Summed (i + 1) steps′ acc′
-    unfolding rows
-    summed-more steps′ acc′ e =
-        record { whole = rw (ap (λ (j : ℕ). drop j a) (add-one i)) (rw (drop-cons a i zeroR h, e) at (s .whole)) }
+  module _ (i j steps : ℕ) (acc : List Ratio) (h : i < length a) (s : Summed i j steps acc) where
+    -- a row is done
+    pub summed-row : length b ≤ j → Summed (i + 1) 0 steps acc
+    unfolding rowed
+    summed-row k =
+        let e : drop j b ≡ [] = drop-of-length-le b k in
+        record { whole = left-whole (drop (i + 1) a) b (i + 1) acc steps ∙ ap (λ (m : ℕ). rows plain acc (i + 1) (drop m a) b steps) (add-one i) ∙ (rw (drop-cons a i zeroR h, e) at (s .whole)) }
 
-    summed-over : (steps′ : ℕ) → rowed plain plus acc i (getD a i zeroR) b steps ≡ over steps′ → over steps′ ≡ rows plain (replicate 32 zeroR) 0 a b 0
-    unfolding rows
-    summed-over steps′ e = rw (drop-cons a i zeroR h, e) at (s .whole)
+    module _ (k : j < length b) where
+      pub summed-place : (t r : Ratio) → mulOf (getD a i zeroR) (getD b j zeroR) ≡ Done t → addOf (getD acc (i + j) zeroR) t ≡ Done r → Summed i (j + 1) (steps + 2) (set acc (i + j) r)
+      unfolding rowed
+      summed-place t r e f =
+          let m : i + (j + 1) ≡ i + j + 1 = omega arith in
+          let n : steps + 2 ≡ suc (suc steps) = omega arith in
+          record { whole = rw (drop-cons a i zeroR h, m, n, add-one j) (rw (drop-cons a i zeroR h, drop-cons b j zeroR k, e, f) at (s .whole)) }
 
-  summed-all : (i steps : ℕ) (acc : List Ratio) → length a ≤ i → Summed i steps acc → fine steps acc ≡ rows plain (replicate 32 zeroR) 0 a b 0
-  unfolding rows
-  summed-all i steps acc h s =
+      pub times-over : (why : Reason) → mulOf (getD a i zeroR) (getD b j zeroR) ≡ Refused why → over (steps + 1) ≡ rows plain (replicate 32 zeroR) 0 a b 0
+      unfolding rowed
+      times-over why e = rw (add-one steps) (rw (drop-cons a i zeroR h, drop-cons b j zeroR k, e) at (s .whole))
+
+      pub plus-over : (t : Ratio) (why : Reason) → mulOf (getD a i zeroR) (getD b j zeroR) ≡ Done t → addOf (getD acc (i + j) zeroR) t ≡ Refused why → over (steps + 2) ≡ rows plain (replicate 32 zeroR) 0 a b 0
+      unfolding rowed
+      plus-over t why e f =
+          let n : steps + 2 ≡ suc (suc steps) = omega arith in
+          rw n (rw (drop-cons a i zeroR h, drop-cons b j zeroR k, e, f) at (s .whole))
+
+  summed-all : (i j steps : ℕ) (acc : List Ratio) → length a ≤ i → Summed i j steps acc → fine steps acc ≡ rows plain (replicate 32 zeroR) 0 a b 0
+  summed-all i j steps acc h s =
       let e : drop i a ≡ [] = drop-of-length-le a h in
       rw e at (s .whole)
 
@@ -133,13 +163,13 @@ none-right (x ∷ a) [] h = refl
 none-right (x ∷ a) (y ∷ b) h = absurd (omega arith)
 
 module _ (a b : List Ratio) (p : 0 < length a) (q : 0 < length b) (h : length a + length b ≤ 33) where
-  pub product-refused : (i steps steps′ : ℕ) (acc : List Ratio) → i < length a → Summed a b i steps acc → rowed plain plus acc i (getD a i zeroR) b steps ≡ over steps′ → refusedWith CoeffOverflow steps′ ≡ productOf a b
-  product-refused i steps steps′ acc k s e =
-      ap answerOf (before-over _ (multiplied plain a b 0) steps′ (summed-over a b i steps acc k s steps′ e ∙ spare a b h)) ∙ sym (some-some a b p q h)
+  pub product-refused : (steps : ℕ) → over steps ≡ rows plain (replicate 32 zeroR) 0 a b 0 → refusedWith CoeffOverflow steps ≡ productOf a b
+  product-refused steps e =
+      ap answerOf (before-over _ (multiplied plain a b 0) steps (e ∙ spare a b h)) ∙ sym (some-some a b p q h)
 
-  pub product-done : (i steps : ℕ) (acc : List Ratio) → length a ≤ i → Summed a b i steps acc → doneWith (polyOf (trim (take (length a + length b - 1) acc))) steps ≡ productOf a b
-  product-done i steps acc k s =
-      ap answerOf (before-fine _ (length a + length b - 1) (multiplied plain a b 0) steps acc (multiplied-long plain a b 0) (summed-all a b i steps acc k s ∙ spare a b h)) ∙ sym (some-some a b p q h)
+  pub product-done : (i j steps : ℕ) (acc : List Ratio) → length a ≤ i → Summed a b i j steps acc → doneWith (polyOf (trim (take (length a + length b - 1) acc))) steps ≡ productOf a b
+  product-done i j steps acc k s =
+      ap answerOf (before-fine _ (length a + length b - 1) (multiplied plain a b 0) steps acc (multiplied-long plain a b 0) (summed-all a b i j steps acc k s ∙ spare a b h)) ∙ sym (some-some a b p q h)
 
 -- ---- a row for any caller
 

@@ -1,4 +1,5 @@
 pub mod Poly
+pub mod Pairs
 pub mod Machine
 pub mod Work
 pub mod Answer

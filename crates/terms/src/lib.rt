@@ -7,12 +7,13 @@ use ratio::Reason;
 use ratio::Step;
 ghost use mathlib.Core.Path.{_≡_};
 ghost use mathlib.Core.List.{List, []};
-ghost use Prim.Native.Nat.{ℕ, _+_, _-_, _≤_, max};
-ghost use lib.IntN.{pos};
-ghost use lib.ListN.{length, getD};
+ghost use Prim.Native.Nat.{ℕ, _+_, _-_, _<_, _≤_, max};
+ghost use lib.IntN.{ℤ, pos};
+ghost use lib.ListN.{length, take};
 ghost use Rattle.ratio.specs.Refusal.{zeroR};
 ghost use Rattle.ratio.specs.declared.Ratio.{Ratio};
 ghost use Rattle.terms.specs.Poly.{termsOf, polyOf, trim};
+ghost use Rattle.terms.specs.Pairs.{pairs};
 ghost use Rattle.terms.specs.Machine.{plus, minus, plain, stepOf, wholeR};
 ghost use Rattle.terms.specs.Work.{zipped, scaled, derived, rowed};
 ghost use Rattle.terms.specs.Answer.{doneWith, refusedWith, answerOf, opIf, negatedOf, productOf, valueOf, rowOf, rowOver, rowGiven};
@@ -97,18 +98,21 @@ impl Poly {
         ensures is { λ r. ⌜ r ≡ answerOf (scaled plain (termsOf self) c 0) ⌝ }
     {
         let n = self.length();
-        let mut out = Poly::zero();
+        let mut nums = [0i64; 32];
+        let mut dens = [1i64; 32];
         let mut i: usize = 0;
         while i < n {
             let x = self.coeffs[i];
             let Step::Done(y) = ratio::checked_mul(x, c) else {
                 return refused(Reason::CoeffOverflow, (i as u64) + 1);
             };
-            out.coeffs[i] = y;
+            let num = y.num;
+            let den = y.den;
+            nums[i] = num;
+            dens[i] = den;
             i += 1;
         }
-        out.len = n;
-        done(out.normalise(), n as u64)
+        done(joined(&nums, &dens, n), n as u64)
     }
 
     // Each coefficient's negative. A negation is no step.
@@ -116,18 +120,21 @@ impl Poly {
         ensures is { λ r. ⌜ r ≡ answerOf (negatedOf (termsOf self)) ⌝ }
     {
         let n = self.length();
-        let mut out = Poly::zero();
+        let mut nums = [0i64; 32];
+        let mut dens = [1i64; 32];
         let mut i: usize = 0;
         while i < n {
             let x = self.coeffs[i];
             let Step::Done(y) = ratio::checked_neg(x) else {
                 return refused(Reason::CoeffOverflow, 0);
             };
-            out.coeffs[i] = y;
+            let num = y.num;
+            let den = y.den;
+            nums[i] = num;
+            dens[i] = den;
             i += 1;
         }
-        out.len = n;
-        done(out.normalise(), 0)
+        done(joined(&nums, &dens, n), 0)
     }
 
     // The derivative: coefficient i + 1 times i + 1.
@@ -135,47 +142,49 @@ impl Poly {
         ensures is { λ r. ⌜ r ≡ answerOf (derived plain (termsOf self) 0) ⌝ }
     {
         let n = less_one(self.length());
-        let mut out = Poly::zero();
+        let mut nums = [0i64; 32];
+        let mut dens = [1i64; 32];
         let mut i: usize = 0;
         while i < n {
             let x = self.coeffs[i + 1];
             let Step::Done(y) = ratio::checked_mul(x, index(i + 1)) else {
                 return refused(Reason::CoeffOverflow, (i as u64) + 1);
             };
-            out.coeffs[i] = y;
+            let num = y.num;
+            let den = y.den;
+            nums[i] = num;
+            dens[i] = den;
             i += 1;
         }
-        out.len = n;
-        done(out.normalise(), n as u64)
-    }
-
-    // Coefficient i, 0/1 past the end.
-    fn at(self, i: usize) -> Ratio
-        ensures { λ r. ⌜ r ≡ getD (termsOf self) i zeroR ⌝ }
-    {
-        let n = self.length();
-        if i < n { self.coeffs[i] } else { nil() }
+        done(joined(&nums, &dens, n), n as u64)
     }
 
     // The sum, or the difference, coefficient by coefficient.
     pub fn zip(self, other: Poly, subtract: bool) -> Answer
         ensures is { λ r. ⌜ r ≡ answerOf (zipped plain (opIf subtract) (termsOf self) (termsOf other) 0) ⌝ }
     {
-        let n = longer(self.length(), other.length());
-        let mut out = Poly::zero();
+        let a = self.length();
+        let b = other.length();
+        let n = longer(a, b);
+        let mut nums = [0i64; 32];
+        let mut dens = [1i64; 32];
         let mut i: usize = 0;
         while i < n {
-            let Step::Done(y) = combine(subtract, self.at(i), other.at(i)) else {
+            let x = self.coeffs[i];
+            let y = other.coeffs[i];
+            let Step::Done(s) = combine(subtract, used(x, i, a), used(y, i, b)) else {
                 return refused(Reason::CoeffOverflow, (i as u64) + 1);
             };
-            out.coeffs[i] = y;
+            let num = s.num;
+            let den = s.den;
+            nums[i] = num;
+            dens[i] = den;
             i += 1;
         }
-        out.len = n;
-        done(out.normalise(), n as u64)
+        done(joined(&nums, &dens, n), n as u64)
     }
 
-    // The product, row after row, as multiplied by hand.
+    // The product; zero where a factor is zero, refused where it has over 32 coefficients.
     pub fn times(self, other: Poly) -> Answer
         ensures is { λ r. ⌜ r ≡ productOf (termsOf self) (termsOf other) ⌝ }
     {
@@ -190,50 +199,75 @@ impl Poly {
         if n + m > 33 {
             return refused(Reason::TooLong, 0);
         }
-        let mut acc = [nil(); 32];
+        self.rows(n, other, m)
+    }
+
+    // Row after row, as multiplied by hand: place j of row i is added at i + j.
+    fn rows(self, n: usize, other: Poly, m: usize) -> Answer
+        requires { ⌜ (n ≡ length (termsOf self)) × (m ≡ length (termsOf other)) × (0 < n) × (0 < m) × (n + m ≤ 33) ⌝ }
+        ensures { λ r. ⌜ r ≡ productOf (termsOf self) (termsOf other) ⌝ }
+    {
+        let mut nums = [0i64; 32];
+        let mut dens = [1i64; 32];
         let mut steps: u64 = 0;
         let mut i: usize = 0;
+        let mut j: usize = 0;
         while i < n {
-            let x = self.coeffs[i];
-            let row = add_row(acc, i, x, other, steps);
-            if !row.fine {
-                return refused(Reason::CoeffOverflow, row.steps);
+            if j == m {
+                i += 1;
+                j = 0;
+                continue;
             }
-            acc = row.acc;
-            steps = row.steps;
-            i += 1;
+            let x = self.coeffs[i];
+            let y = other.coeffs[j];
+            let Step::Done(t) = ratio::checked_mul(x, y) else {
+                return refused(Reason::CoeffOverflow, steps + 1);
+            };
+            let at = i + j;
+            let u = nums[at];
+            let v = dens[at];
+            let Step::Done(s) = ratio::checked_add(Ratio { num: u, den: v }, t) else {
+                return refused(Reason::CoeffOverflow, steps + 2);
+            };
+            let num = s.num;
+            let den = s.den;
+            nums[at] = num;
+            dens[at] = den;
+            steps += 2;
+            j += 1;
         }
-        let out = Poly {
-            coeffs: acc,
-            len: n + m - 1,
-        };
-        done(out.normalise(), steps)
+        done(joined(&nums, &dens, n + m - 1), steps)
     }
 
     // The value at x; after the last coefficient one power more is taken, as in the original.
+    // The sum sn/sd and the power pn/pd are kept as numbers: a fraction that a step has just written in two pieces is slow to copy in one.
     pub fn value_at(self, x: Ratio) -> Step
         ensures is { λ r. ⌜ r ≡ valueOf (termsOf self) x ⌝ }
     {
         let n = self.length();
-        let mut sum = nil();
-        let mut power = Ratio { num: 1, den: 1 };
+        let mut sn: i64 = 0;
+        let mut sd: i64 = 1;
+        let mut pn: i64 = 1;
+        let mut pd: i64 = 1;
         let mut i: usize = 0;
         while i < n {
             let c = self.coeffs[i];
-            let Step::Done(t) = ratio::checked_mul(c, power) else {
+            let Step::Done(t) = ratio::checked_mul(c, Ratio { num: pn, den: pd }) else {
                 return Step::Refused(Reason::CoeffOverflow);
             };
-            let Step::Done(s) = ratio::checked_add(sum, t) else {
+            let Step::Done(s) = ratio::checked_add(Ratio { num: sn, den: sd }, t) else {
                 return Step::Refused(Reason::CoeffOverflow);
             };
-            let Step::Done(p) = ratio::checked_mul(power, x) else {
+            let Step::Done(p) = ratio::checked_mul(Ratio { num: pn, den: pd }, x) else {
                 return Step::Refused(Reason::CoeffOverflow);
             };
-            sum = s;
-            power = p;
+            sn = s.num;
+            sd = s.den;
+            pn = p.num;
+            pd = p.den;
             i += 1;
         }
-        Step::Done(sum)
+        Step::Done(Ratio { num: sn, den: sd })
     }
 }
 
@@ -264,6 +298,49 @@ fn longer(n: usize, m: usize) -> usize
     ensures { λ r. ⌜ r ≡ max n m ⌝ }
 {
     if n < m { m } else { n }
+}
+
+// A coefficient where it is in use, 0/1 past the end.
+fn used(c: Ratio, i: usize, n: usize) -> Ratio
+    ensures { λ r. ⌜ (i < n → r ≡ c) × (n ≤ i → r ≡ zeroR) ⌝ }
+{
+    if i < n { c } else { nil() }
+}
+
+// How many of the first n are left once the zeros at the top are dropped, whatever the denominators are.
+fn top_of(nums: &[i64], n: usize) -> usize
+    requires { ⌜ (length (now nums) ≡ 32) × (n ≤ 32) ⌝ }
+    ensures { λ r. ⌜ ((ds : List ℤ) → length ds ≡ length (now (nums .entry)) → r ≡ length (trim (take n (pairs (now (nums .entry)) ds)))) ⌝ }
+{
+    let mut top = n;
+    while top > 0 {
+        let v = nums[top - 1];
+        if v != 0 {
+            return top;
+        }
+        top -= 1;
+    }
+    top
+}
+
+// The polynomial of the first n fractions. A loop that makes them keeps numerators and denominators apart: what a step has just written in two pieces is slow to copy in one.
+fn joined(nums: &[i64], dens: &[i64], n: usize) -> Poly
+    requires { ⌜ (length (now nums) ≡ 32) × (length (now dens) ≡ 32) × (n ≤ 32) ⌝ }
+    ensures { λ r. ⌜ r ≡ polyOf (trim (take n (pairs (now (nums .entry)) (now (dens .entry))))) ⌝ }
+{
+    let top = top_of(nums, n);
+    let mut out = Poly::zero();
+    let mut i: usize = 0;
+    while i < top {
+        let c = Ratio {
+            num: nums[i],
+            den: dens[i],
+        };
+        out.coeffs[i] = c;
+        i += 1;
+    }
+    out.len = top;
+    out
 }
 
 // The number i as a fraction.

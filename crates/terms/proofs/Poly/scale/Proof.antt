@@ -1,6 +1,6 @@
 -- `terms::Poly::scale` meets its contract. The loop's invariant: the first i products are made.
-use mathlib.Core.Path.{_≡_, sym, ap, _∙_}
-use Prim.Native.Nat.{ℕ, _≤_, _-_}
+use mathlib.Core.Path.{_≡_, refl, sym, ap, _∙_}
+use Prim.Native.Nat.{ℕ, _≤_, _-_, _+_}
 use native.Mathlib.Omega.{arith}
 use lib.ListN.{length, getD, length-set}
 use borrow.Author.Needs.{needs}
@@ -10,9 +10,11 @@ use Rattle.ratio.specs.declared.Ratio.{Ratio}
 use Rattle.ratio.specs.declared.Step.{Step}
 use Rattle.terms.specs.declared.Poly.{Poly}
 use Rattle.terms.specs.Poly.{termsOf}
+use Rattle.terms.specs.Pairs.{pairs}
 use Rattle.terms.specs.Work.{scaled}
 use Rattle.terms.specs.Answer.{doneWith}
 use Rattle.terms.proofs.Lists.{long, past, within-32, read-terms}
+use Rattle.terms.proofs.Pairs.{pairs-32, pairs-write}
 use Rattle.terms.proofs.Each.{Counted, counted-none, counted-more, counted-over, counted-all}
 use Rattle.terms.proofs.Poly.scale.Statement.{statement}
 use Rattle.terms.proofs.Poly.scale.Tie as tie
@@ -22,24 +24,21 @@ abbrev turn : Poly → Ratio → ℕ → Step
 turn self c i = mulOf (getD (termsOf self) i zeroR) c
 
 abbrev Inv-loop : tie.InvT-loop
-Inv-loop c self n out₀ i₀ out i =
-    (n ≡ length (termsOf self)) × (n ≤ 32) × (i ≤ n) × (length (out .coeffs) ≡ 32) × Counted (turn self c) (length (termsOf self)) i (out .coeffs)
+Inv-loop c self n nums₀ dens₀ i₀ nums dens i =
+    (n ≡ length (termsOf self)) × (n ≤ 32) × (i ≤ n) × (length nums ≡ 32) × (length dens ≡ 32) × Counted (turn self c) (length (termsOf self)) i (pairs nums dens)
 
 abbrev μ-loop : tie.MeasureT-loop
-μ-loop c self n out₀ i₀ out i = n - i
+μ-loop c self n nums₀ dens₀ i₀ nums dens i = n - i
 
 length-requires : tie.Need-length-requires Inv-loop μ-loop
 length-requires c κs = tt
 
-zero-requires : tie.Need-zero-requires Inv-loop μ-loop
-zero-requires c κs = tt
-
 loop-holds : tie.Need-loop-holds Inv-loop μ-loop
 loop-holds c =
-    let s = c .before .before .args in
+    let s = c .before .args in
     let e : length (s .t1 .coeffs) ≡ 32 = search (needs, long) in
-    let k : c .before .length .result ≤ 32 = omega (arith, c .before .length .ensures, within-32 (s .t1 .len) (s .t1 .coeffs) e) in
-    (c .before .length .ensures, k, omega arith, ap (λ (p : Poly). length (p .coeffs)) (c .zero .ensures), counted-none (turn (s .t1) (s .c)) _ _)
+    let k : c .length .result ≤ 32 = omega (arith, c .length .ensures, within-32 (s .t1 .len) (s .t1 .coeffs) e) in
+    (c .length .ensures, k, omega arith, refl, refl, counted-none (turn (s .t1) (s .c)) _ _)
 
 mul-x : tie.Need-mul-x Inv-loop μ-loop
 mul-x c = omega arith
@@ -50,10 +49,10 @@ element-copy-out-x c = omega arith
 checked-mul-requires : tie.Need-checked-mul-requires Inv-loop μ-loop
 checked-mul-requires c κs = tt
 
-step : (c : tie.After-checked-mul Inv-loop μ-loop) → turn (c .before .before .before .before .before .before .args .t1) (c .before .before .before .before .before .before .args .c) (c .before .before .before .loop .i) ≡ c .checked-mul .result
+step : (c : tie.After-checked-mul Inv-loop μ-loop) → turn (c .before .before .before .before .before .args .t1) (c .before .before .before .before .before .args .c) (c .before .before .before .loop .i) ≡ c .checked-mul .result
 step c =
     let l = c .before .before .before in
-    let s = l .before .before .before .args in
+    let s = l .before .before .args in
     sym (rw (read-terms (s .t1 .len) (s .t1 .coeffs) (l .loop .i) past zeroR (omega arith)) at (c .checked-mul .ensures .0))
 
 enum-known-y : tie.Need-enum-known-y Inv-loop μ-loop
@@ -73,14 +72,20 @@ unfolding scaled
 returns c =
     let m = c .before .before .before in
     let l = m .before .before .before in
-    let s = l .before .before .before .args in
-    c .refused .ensures ∙ counted-over (turn (s .t1) (s .c)) (length (termsOf (s .t1))) (l .loop .i) (l .loop .out .coeffs) _ (omega arith) (step m ∙ c .before .enum-told .given .1) (l .loop .inv .4)
+    let s = l .before .before .args in
+    c .refused .ensures ∙ counted-over (turn (s .t1) (s .c)) (length (termsOf (s .t1))) (l .loop .i) (pairs (l .loop .nums) (l .loop .dens)) _ (omega arith) (step m ∙ c .before .enum-told .given .1) (l .loop .inv .5)
 
-mul-y : tie.Need-mul-y Inv-loop μ-loop
-mul-y c = omega arith
+mul-nums : tie.Need-mul-nums Inv-loop μ-loop
+mul-nums c = omega arith
 
-element-set-from-y : tie.Need-element-set-from-y Inv-loop μ-loop
-element-set-from-y c = omega arith
+array-set-from-nums : tie.Need-array-set-from-nums Inv-loop μ-loop
+array-set-from-nums c = omega arith
+
+mul-dens : tie.Need-mul-dens Inv-loop μ-loop
+mul-dens c = omega arith
+
+array-set-from-dens : tie.Need-array-set-from-dens Inv-loop μ-loop
+array-set-from-dens c = omega arith
 
 add-i : tie.Need-add-i Inv-loop μ-loop
 add-i c = omega arith
@@ -90,18 +95,28 @@ loop-less c = omega arith
 
 loop-again : tie.Need-loop-again Inv-loop μ-loop
 loop-again c =
-    let m = c .before .before .before in
+    let k = c .before .before .before in
+    let m = k .before .before in
     let l = m .before .before .before in
-    let s = l .before .before .before .args in (
-      l .loop .inv .0,
-      l .loop .inv .1,
+    let s = l .before .before .args in
+    let inv = l .loop .inv in (
+      inv .0,
+      inv .1,
       omega arith,
-      length-set (l .loop .out .coeffs) (l .loop .i) _ ∙ l .loop .inv .3,
-      counted-more (turn (s .t1) (s .c)) (length (termsOf (s .t1))) (l .loop .i) (l .loop .out .coeffs) _ (omega arith) (omega arith) (step m ∙ c .before .y .given .1) (l .loop .inv .4),
+      length-set (l .loop .nums) (l .loop .i) _ ∙ inv .3,
+      length-set (l .loop .dens) (l .loop .i) _ ∙ inv .4,
+      pairs-write (l .loop .nums) (l .loop .dens) (inv .3) (inv .4) (Counted (turn (s .t1) (s .c)) (length (termsOf (s .t1))) (l .loop .i + 1)) (l .loop .i) (k .y .given .0 .0) (record { sfits = c .before .struct-told .given .0 .1 }) (record { sfits = c .struct-told2 .given .1 .0 .1 })
+          (counted-more (turn (s .t1) (s .c)) (length (termsOf (s .t1))) (l .loop .i) (pairs (l .loop .nums) (l .loop .dens)) _ (omega arith) (omega (arith, pairs-32 (l .loop .nums) (l .loop .dens) (inv .3) (inv .4))) (step m ∙ k .y .given .1) (inv .5)),
     )
 
-normalise-requires : tie.Need-normalise-requires Inv-loop μ-loop
-normalise-requires c κs = tt
+slice-aggregate-joined : tie.Need-slice-aggregate-joined Inv-loop μ-loop
+slice-aggregate-joined c = search needs
+
+slice-aggregate-joined-2 : tie.Need-slice-aggregate-joined-2 Inv-loop μ-loop
+slice-aggregate-joined-2 c = search needs
+
+joined-requires : tie.Need-joined-requires Inv-loop μ-loop
+joined-requires c κs = let l = c .before .before .before in (l .loop .inv .3, l .loop .inv .4, omega arith)
 
 done-requires : tie.Need-done-requires Inv-loop μ-loop
 done-requires c κs = tt
@@ -109,9 +124,9 @@ done-requires c κs = tt
 returns-2 : tie.Need-returns-2 Inv-loop μ-loop
 unfolding scaled
 returns-2 c =
-    let l = c .before .before .before in
-    let s = l .before .before .before .args in
-    c .done .ensures ∙ ap (λ (p : Poly). doneWith p (l .before .before .length .result)) (c .before .normalise .ensures) ∙ counted-all (turn (s .t1) (s .c)) (length (termsOf (s .t1))) (l .loop .i) _ (l .loop .out .coeffs) (l .loop .inv .0) (omega arith) (omega arith) (l .loop .inv .4)
+    let l = c .before .before .before .before .before in
+    let s = l .before .before .args in
+    c .done .ensures ∙ ap (λ (p : Poly). doneWith p (l .before .length .result)) (c .before .joined .ensures) ∙ counted-all (turn (s .t1) (s .c)) (length (termsOf (s .t1))) (l .loop .i) _ (pairs (l .loop .nums) (l .loop .dens)) (l .loop .inv .0) (omega arith) (omega arith) (l .loop .inv .5)
 
 pub scale-spec : {M : Type 1} → statement M
 scale-spec =
@@ -120,7 +135,6 @@ scale-spec =
     Inv-loop
     μ-loop
     length-requires
-    zero-requires
     loop-holds
     mul-x
     element-copy-out-x
@@ -130,11 +144,15 @@ scale-spec =
     add-refused
     refused-requires
     returns
-    mul-y
-    element-set-from-y
+    mul-nums
+    array-set-from-nums
+    mul-dens
+    array-set-from-dens
     add-i
     loop-less
     loop-again
-    normalise-requires
+    slice-aggregate-joined
+    slice-aggregate-joined-2
+    joined-requires
     done-requires
     returns-2)
