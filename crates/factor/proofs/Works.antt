@@ -1,7 +1,8 @@
 -- Laws of the work behind the door, one for each way that it goes on or ends.
-use mathlib.Core.Path.{_≡_, sym, ap, _∙_}
+use mathlib.Core.Path.{_≡_, refl, sym, ap, ap₂, _∙_}
 use mathlib.Core.List.{List, []}
 use Prim.Native.Nat.{ℕ}
+use Rattle.ratio.specs.Refusal.{zeroR}
 use Rattle.ratio.specs.declared.Outcome.{Outcome}
 use Rattle.ratio.specs.declared.Outcome.the-variants as O
 use Rattle.ratio.specs.declared.Ratio.{Ratio}
@@ -12,6 +13,10 @@ use Rattle.ratio.specs.declared.Step.the-variants as S
 use Rattle.terms.specs.declared.Answer.{Answer}
 use Rattle.terms.specs.declared.Poly.{Poly}
 use Rattle.terms.specs.Poly.{termsOf}
+use Rattle.poly.specs.declared.Gate.{Gate}
+use Rattle.poly.specs.declared.Gate.the-variants.{Open, Long, Bad}
+use Rattle.poly.specs.Door.{doorOf, both, entered}
+use Rattle.roots.specs.Answer.{budgetDoor}
 use Rattle.roots.specs.Content.{contentFor, primitiveOf}
 use Rattle.yun.specs.declared.Decomposition.{Decomposition}
 use Rattle.yun.specs.declared.Piece.{Piece}
@@ -21,7 +26,7 @@ use Rattle.yun.specs.Yun.{squareFrees}
 use Rattle.splitting.specs.Split.{splitAll}
 use Rattle.splitting.proofs.Places.{list-got, list-none}
 use Rattle.factor.specs.declared.Factorization.{Factorization}
-use Rattle.factor.specs.Factors.{gotIn, gotOf, splitParts, factorsOf, noFactors, factorsWith, withContent, workOf}
+use Rattle.factor.specs.Factors.{gotIn, gotOf, splitParts, factorsOf, noFactors, withContent, workOf, factorFor, contentOr, contentBehind, unlessRefused, factorsBehind, contentWith}
 
 -- an answer says what was got
 pub answer-got : (a : Answer) → a .outcome ≡ O.Done → gotOf a ≡ got (termsOf (a .poly))
@@ -55,19 +60,46 @@ module _ (p : Poly) (budget : ℕ) (a : Answer) (e : a ≡ primitiveOf p) where
     all-split u r h =
         h ∙ ap decompositionOf (ap (λ (t : Got (List Piece)). thenGot t (λ l. splitAll l budget [])) (sym (list-got d (squareFrees (termsOf (a .poly))) f u)) ∙ next-by (got (termsOf (a .poly))) (first-got o))
 
-module _ (p : Poly) (budget : ℕ) where
-  content-by : (s : Step) → s ≡ contentFor p → withContent s (factorsOf p budget) ≡ workOf p budget
-  content-by s e = ap (λ (t : Step). withContent t (factorsOf p budget)) e
+-- ---- the content, the factors, and both together
 
-  pub content-refused : (why : Reason) → S.Refused why ≡ contentFor p → (r : Factorization) → r ≡ noFactors BadInput → r ≡ workOf p budget
-  content-refused why e r h = h ∙ content-by (S.Refused why) e
+pub content-got : (p : Poly) (s : Step) → s ≡ contentFor p → (c : Ratio) → s ≡ S.Done c → S.Done c ≡ contentOr (contentFor p)
+content-got p s e c o = ap contentOr (sym o ∙ e)
 
-  module _ (c : Ratio) (e : S.Done c ≡ contentFor p) (d : Decomposition) (f : d ≡ factorsOf p budget) where
-    with-by : (o : Outcome) → d .outcome ≡ o → factorsWith c o d ≡ workOf p budget
-    with-by o u = ap (λ (t : Outcome). factorsWith c t d) (sym u) ∙ ap (λ (t : Decomposition). factorsWith c (t .outcome) t) f ∙ content-by (S.Done c) e
+pub content-none : (p : Poly) (s : Step) → s ≡ contentFor p → (why : Reason) → s ≡ S.Refused why → S.Refused BadInput ≡ contentOr (contentFor p)
+content-none p s e why o = ap contentOr (sym o ∙ e)
 
-    pub factors-refused : (why : Reason) → d .outcome ≡ O.Refused why → (r : Factorization) → r ≡ noFactors why → r ≡ workOf p budget
-    factors-refused why u r h = h ∙ with-by (O.Refused why) u
+module _ (s : Step) (d : Decomposition) where
+  pub factors-refused : (why : Reason) → s ≡ S.Refused why → refusedFor why ≡ unlessRefused s d
+  factors-refused why e = ap (λ (t : Step). unlessRefused t d) (sym e)
 
-    pub factors-done : d .outcome ≡ O.Done → _≡_ {A = Factorization} (record { outcome = O.Done; content = c; pieces = d .pieces; len = d .len }) (workOf p budget)
-    factors-done u = with-by O.Done u
+  pub factors-done : (c : Ratio) → s ≡ S.Done c → d ≡ unlessRefused s d
+  factors-done c e = ap (λ (t : Step). unlessRefused t d) (sym e)
+
+module _ (o : Outcome) (s : Step) where
+  pub with-refused : (why : Reason) → o ≡ O.Refused why → zeroR ≡ contentWith o s
+  with-refused why e = ap (λ (t : Outcome). contentWith t s) (sym e)
+
+  pub with-none : o ≡ O.Done → (why : Reason) → s ≡ S.Refused why → zeroR ≡ contentWith o s
+  with-none e why f = ap₂ contentWith (sym e) (sym f)
+
+  pub with-content : o ≡ O.Done → (c : Ratio) → s ≡ S.Done c → c ≡ contentWith o s
+  with-content e c f = ap₂ contentWith (sym e) (sym f)
+
+abbrev pub assembled : Decomposition → Ratio → Factorization
+assembled d c = record { outcome = d .outcome; content = c; pieces = d .pieces; len = d .len }
+
+-- whatever the door, the content and the work are
+assembled-by : (g : Gate) (s : Step) (l : Got (List Piece)) → let d = unlessRefused (entered S.Refused g (contentOr s)) (decompositionOf l) in assembled d (contentWith (d .outcome) (entered S.Refused g (contentOr s))) ≡ entered noFactors g (withContent s (decompositionOf l))
+assembled-by Open (S.Done c) (got l) = refl
+assembled-by Open (S.Done c) (none why) = refl
+assembled-by Open (S.Refused why) l = refl
+assembled-by Long s l = refl
+assembled-by Bad s l = refl
+
+module _ (p : Poly) (budget : ℕ) (g : Gate) (e : g ≡ both (doorOf p) (budgetDoor budget)) (s : Step) (f : s ≡ contentBehind g p) where
+  pub assembled-is : (d : Decomposition) → d ≡ factorsBehind s p budget → (c : Ratio) → c ≡ contentWith (d .outcome) s → assembled d c ≡ factorFor p budget
+  assembled-is d h c k =
+      ap (assembled d) k
+      ∙ ap₂ (λ (x : Decomposition) (t : Step). assembled x (contentWith (x .outcome) t)) (h ∙ ap (λ (t : Step). factorsBehind t p budget) f) f
+      ∙ assembled-by g (contentFor p) (splitParts p budget)
+      ∙ ap (λ (t : Gate). entered noFactors t (workOf p budget)) e

@@ -13,6 +13,7 @@ use Rattle.ratio.specs.declared.Step.the-variants as S
 use Rattle.terms.specs.declared.Answer.{Answer}
 use Rattle.terms.specs.declared.Poly.{Poly}
 use Rattle.terms.specs.Poly.{termsOf}
+use Rattle.poly.specs.declared.Gate.{Gate}
 use Rattle.poly.specs.Door.{doorOf, both, entered}
 use Rattle.roots.specs.Answer.{budgetDoor}
 use Rattle.roots.specs.Content.{contentFor, primitiveOf}
@@ -58,3 +59,26 @@ workOf p budget = withContent (contentFor p) (factorsOf p budget)
 
 abbrev pub factorFor : Poly → ℕ → Factorization
 factorFor p budget = entered noFactors (both (doorOf p) (budgetDoor budget)) (workOf p budget)
+
+-- ---- the same with one way out
+
+-- the content behind the door; else why there are no factors
+abbrev pub contentOr : Step → Step
+contentOr (S.Done c) = S.Done c
+contentOr (S.Refused why) = S.Refused BadInput
+
+abbrev pub contentBehind : Gate → Poly → Step
+contentBehind d p = entered S.Refused d (contentOr (contentFor p))
+
+abbrev pub unlessRefused : Step → Decomposition → Decomposition
+unlessRefused (S.Done c) d = d
+unlessRefused (S.Refused why) d = refusedFor why
+
+abbrev pub factorsBehind : Step → Poly → ℕ → Decomposition
+factorsBehind c p budget = unlessRefused c (factorsOf p budget)
+
+-- the content that goes with an outcome
+abbrev pub contentWith : Outcome → Step → Ratio
+contentWith O.Done (S.Done c) = c
+contentWith O.Done (S.Refused why) = zeroR
+contentWith (O.Refused why) s = zeroR

@@ -9,12 +9,13 @@ use terms::Poly;
 use yun::Decomposition;
 use yun::Piece;
 ghost use mathlib.Core.Path.{_≡_};
-ghost use mathlib.Core.List.{[], _∷_};
-ghost use lib.ListN.{length};
+ghost use mathlib.Core.List.{List, [], _∷_};
+ghost use lib.ListN.{length, take};
 ghost use Rattle.terms.specs.Poly.{termsOf, polyOf, trim};
+ghost use Rattle.yun.specs.declared.Piece.{Piece};
 ghost use Rattle.splitting.specs.Pair.{Padded};
 ghost use Rattle.poly.specs.Promise.{Gives};
-ghost use Rattle.factor.specs.Factors.{decompositionFor, noFactors, factorsOf, workOf, factorFor};
+ghost use Rattle.factor.specs.Factors.{decompositionFor, contentBehind, factorsBehind, contentWith, factorFor};
 ghost use Rattle.factor.specs.Promise.{FactorPromise, DecompositionPromise, rebuiltAs};
 ghost use Rattle.factor.specs.Rebuild.{answerFrom, refusedFrom, raised, factorsIn, rebuilt, rebuildFor};
 
@@ -33,30 +34,31 @@ pub fn square_free_decomposition(f: Poly) -> Decomposition
 {
     let d = poly::door(f);
     if let Gate::Open = d {
-        yun::decompose(f)
-    } else {
-        yun::refused(poly::reason(d))
+        return yun::decompose(f);
     }
+    yun::refused(poly::reason(d))
 }
 
-// A refused one has no factor and content 0.
-fn no_factors(why: Reason) -> Factorization
-    ensures { λ r. ⌜ r ≡ noFactors why ⌝ }
+// The content, where the door is open; else why there are no factors.
+fn content_behind(d: Gate, p: Poly) -> Step
+    ensures { λ r. ⌜ r ≡ contentBehind d p ⌝ }
 {
-    let e = yun::nothing();
-    let pieces = e.pieces;
-    Factorization {
-        outcome: Outcome::Refused(why),
-        content: Ratio { num: 0, den: 1 },
-        pieces,
-        len: 0,
+    if let Gate::Open = d {
+        let Step::Done(c) = roots::content(p) else {
+            return Step::Refused(Reason::BadInput);
+        };
+        return Step::Done(c);
     }
+    Step::Refused(poly::reason(d))
 }
 
-// The primitive part's decomposition, each factor split.
-fn split_primitive(p: Poly, budget: u64) -> Decomposition
-    ensures { λ r. ⌜ r ≡ factorsOf p budget ⌝ }
+// The primitive part's decomposition, each factor split, where there is a content.
+fn split_primitive(c: Step, p: Poly, budget: u64) -> Decomposition
+    ensures { λ r. ⌜ r ≡ factorsBehind c p budget ⌝ }
 {
+    if let Step::Refused(why) = c {
+        return yun::refused(why);
+    }
     let a = roots::primitive_part(p);
     let o = a.outcome;
     if let Outcome::Refused(why) = o {
@@ -71,36 +73,35 @@ fn split_primitive(p: Poly, budget: u64) -> Decomposition
     splitting::split_all(d, budget)
 }
 
-fn factor_terms(p: Poly, budget: u64) -> Factorization
-    ensures { λ r. ⌜ r ≡ workOf p budget ⌝ }
+// The content that goes with the factors: 0 where there are none.
+fn content_with(o: Outcome, c: Step) -> Ratio
+    ensures { λ r. ⌜ r ≡ contentWith o c ⌝ }
 {
-    let Step::Done(c) = roots::content(p) else {
-        return no_factors(Reason::BadInput);
+    if let Outcome::Refused(_) = o {
+        return Ratio { num: 0, den: 1 };
+    }
+    let Step::Done(r) = c else {
+        return Ratio { num: 0, den: 1 };
     };
-    let s = split_primitive(p, budget);
-    let o = s.outcome;
-    if let Outcome::Refused(why) = o {
-        return no_factors(why);
-    }
-    let pieces = s.pieces;
-    Factorization {
-        outcome: Outcome::Done,
-        content: c,
-        pieces,
-        len: s.len,
-    }
+    r
 }
 
-// The content and the factors of a polynomial.
+// The content and the factors of a polynomial. There is one way out, so that the list is copied once.
 pub fn factor(p: Poly, budget: u64) -> Factorization
     ensures is { λ r. ⌜ r ≡ factorFor p budget ⌝ }
     ensures promise { λ r. ⌜ FactorPromise p r ⌝ }
 {
     let d = poly::both(poly::door(p), roots::door_of_budget(budget));
-    if let Gate::Open = d {
-        factor_terms(p, budget)
-    } else {
-        no_factors(poly::reason(d))
+    let c = content_behind(d, p);
+    let s = split_primitive(c, p, budget);
+    let outcome = s.outcome;
+    let content = content_with(outcome, c);
+    let pieces = s.pieces;
+    Factorization {
+        outcome,
+        content,
+        pieces,
+        len: s.len,
     }
 }
 
@@ -131,10 +132,10 @@ fn raise(acc: Poly, q: Poly, times: u64) -> Answer
     terms::done(now, 0)
 }
 
-fn count(r: Factorization) -> usize
-    ensures { λ n. ⌜ n ≡ length (factorsIn r) ⌝ }
+// How many factors an answer has that says n.
+fn count(n: usize) -> usize
+    ensures { λ r. ⌜ ((l : List Piece) → length l ≡ 32 → r ≡ length (take n l)) ⌝ }
 {
-    let n = r.len;
     if n < 32 { n } else { 32 }
 }
 
@@ -142,7 +143,7 @@ fn count(r: Factorization) -> usize
 fn multiply(r: Factorization) -> Answer
     ensures { λ a. ⌜ a ≡ answerFrom (rebuilt (factorsIn r) (trim (r .content ∷ []))) ⌝ }
 {
-    let n = count(r);
+    let n = count(r.len);
     let mut now = constant(r.content);
     let mut i: usize = 0;
     while i < n {

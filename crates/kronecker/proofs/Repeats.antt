@@ -1,9 +1,13 @@
 -- Laws of a step that is repeated until one is refused: a loop that has made the first j.
-use mathlib.Core.Path.{_≡_, sym, ap, _∙_}
+use mathlib.Core.Path.{_≡_, sym, ap, subst, _∙_}
+use mathlib.Core.Bool.{true, false}
 use mathlib.Core.List.{List}
 use Prim.Native.Nat.{ℕ, suc, _+_, _-_, _<_, _≤_}
 use native.Mathlib.Numerals.{add-one}
+use native.Mathlib.Decide.{ℕ-discrete}
 use native.Mathlib.Omega.{arith}
+use lib.ListN.{length, getD, set}
+use lib.Seq.{getD-set-same, getD-set-other}
 use Rattle.ratio.specs.declared.Outcome.the-variants as O
 use Rattle.ratio.specs.declared.Ratio.{Ratio}
 use Rattle.ratio.specs.declared.Reason.{Reason}
@@ -14,8 +18,9 @@ use Rattle.ratio.specs.declared.Step.the-variants.{Done, Refused}
 use Rattle.terms.specs.Machine.{plus, fine, plain}
 use Rattle.terms.specs.Work.{zipped, scaled}
 use Rattle.terms.specs.Answer.{answerOf, valueOf}
+use Rattle.kronecker.specs.declared.Basis.{Basis}
 use Rattle.kronecker.specs.Points.{pointOf}
-use Rattle.kronecker.specs.Interpolation.{skip, onOutcome, onAnswer, repeated, basisOf, partOf, addedPart}
+use Rattle.kronecker.specs.Interpolation.{skip, onOutcome, onAnswer, repeated, basisOf, partOf, addedPart, partFrom, addedFrom, Serves, Serving}
 
 -- an answer that was given goes on, another one doesn't
 pub answer-done : {X : Type 0} (a b : Answer) (x : X) (k : List Ratio → X) → b ≡ a → b .outcome ≡ O.Done → k (termsOf (b .poly)) ≡ onAnswer a x k
@@ -49,31 +54,56 @@ module _ (step : ℕ → List Ratio → Answer) (n : ℕ) (start : List Ratio) w
   unfolding repeated
   repeating-all j acc h s = let k : n - j ≡ 0 = omega arith in rw k at (s .whole)
 
--- ---- one part of the sum
+-- ---- the basis of a point
 
-module _ (i n : ℕ) (y : Ratio) (b : Answer) (e : b ≡ basisOf i n) where
-  pub part-none : (why : Reason) → b .outcome ≡ O.Refused why → skip ≡ partOf i n y
+module _ (i n : ℕ) (b : Answer) (e : b ≡ basisOf i n) where
+  pub serves-none : (why : Reason) → b .outcome ≡ O.Refused why → (r : Basis) → r .fine ≡ false → Serves i n r
   unfolding partOf
-  part-none why o = rw (← e, o)
+  serves-none why o r f = record { is = λ y. rw (f, ← e, o) }
 
   module _ (o : b .outcome ≡ O.Done) where
-    pub part-valueless : (why : Reason) → valueOf (termsOf (b .poly)) (pointOf i) ≡ Refused why → skip ≡ partOf i n y
+    pub serves-valueless : (why : Reason) → valueOf (termsOf (b .poly)) (pointOf i) ≡ Refused why → (r : Basis) → r .fine ≡ false → Serves i n r
     unfolding partOf
-    part-valueless why v = rw (← e, o, v)
+    serves-valueless why v r f = record { is = λ y. rw (f, ← e, o, v) }
 
-    pub part-broken : (d : Ratio) (why : Reason) → valueOf (termsOf (b .poly)) (pointOf i) ≡ Done d → newOf (y .num) (d .num) ≡ Refused why → skip ≡ partOf i n y
+    pub serves-done : (d : Ratio) → valueOf (termsOf (b .poly)) (pointOf i) ≡ Done d → Serves i n (record { fine = true; poly = b .poly; at = d })
     unfolding partOf
-    part-broken d why v s = rw (← e, o, v, s)
+    serves-done d v = record { is = λ y. rw (← e, o, v) }
 
-    pub part-done : (d s : Ratio) → valueOf (termsOf (b .poly)) (pointOf i) ≡ Done d → newOf (y .num) (d .num) ≡ Done s → answerOf (scaled plain (termsOf (b .poly)) s 0) ≡ partOf i n y
-    unfolding partOf
-    part-done d s v w = rw (← e, o, v, w)
+-- ---- the bases of n points, one after the other
 
-module _ (acc : List Ratio) (i n : ℕ) (y : Ratio) (p : Answer) (e : p ≡ partOf i n y) where
-  pub added-none : (why : Reason) → p .outcome ≡ O.Refused why → skip ≡ addedPart acc i n y
+module _ (n : ℕ) where
+  pub serving-none : (rows : List Basis) → Serving n 0 rows
+  serving-none rows = record { each = λ k h d. absurd (omega arith) }
+
+  pub serving-more : (i : ℕ) (rows : List Basis) (b : Basis) → i < length rows → Serves i n b → Serving n i rows → Serving n (i + 1) (set rows i b)
+  serving-more i rows b h s l = record { each = λ k g d. at k g d (ℕ-discrete k i) }
+    where
+      at : (k : ℕ) → k < i + 1 → (d : Basis) → Dec (k ≡ i) → Serves k n (getD (set rows i b) k d)
+      at k g d (yes p) = subst (λ (k : ℕ). Serves k n (getD (set rows i b) k d)) (sym p) (subst (Serves i n) (sym (getD-set-same rows i b d h)) s)
+      at k g d (no p) = subst (Serves k n) (sym (getD-set-other rows i k b d p)) (l .each k (omega arith) d)
+
+-- ---- one part of the sum
+
+module _ (b : Basis) (y : Ratio) where
+  pub part-none : b .fine ≡ false → skip ≡ partFrom b y
+  part-none f = rw f
+
+  module _ (f : b .fine ≡ true) where
+    pub part-broken : (why : Reason) → newOf (y .num) (b .at .num) ≡ Refused why → skip ≡ partFrom b y
+    part-broken why s = rw (f, s)
+
+    pub part-done : (s : Ratio) → newOf (y .num) (b .at .num) ≡ Done s → answerOf (scaled plain (termsOf (b .poly)) s 0) ≡ partFrom b y
+    part-done s w = rw (f, w)
+
+module _ (acc : List Ratio) (b : Basis) (y : Ratio) where
+  pub added-serves : (i n : ℕ) → Serves i n b → addedFrom acc b y ≡ addedPart acc i n y
   unfolding addedPart
-  added-none why o = rw (← e, o)
+  added-serves i n s = ap (λ (a : Answer). onAnswer a skip (λ p. answerOf (zipped plain plus acc p 0))) (s .is y)
 
-  pub added-done : p .outcome ≡ O.Done → answerOf (zipped plain plus acc (termsOf (p .poly)) 0) ≡ addedPart acc i n y
-  unfolding addedPart
-  added-done o = rw (← e, o)
+  module _ (p : Answer) (e : p ≡ partFrom b y) where
+    pub added-none : (why : Reason) → p .outcome ≡ O.Refused why → skip ≡ addedFrom acc b y
+    added-none why o = answer-refused (partFrom b y) p skip (λ p. answerOf (zipped plain plus acc p 0)) why e o
+
+    pub added-done : p .outcome ≡ O.Done → answerOf (zipped plain plus acc (termsOf (p .poly)) 0) ≡ addedFrom acc b y
+    added-done o = answer-done (partFrom b y) p skip (λ p. answerOf (zipped plain plus acc p 0)) e o

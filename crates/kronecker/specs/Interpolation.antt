@@ -1,7 +1,8 @@
 -- Document 01, module 5, Kronecker: the polynomial with given values at the first n points (`lagrange_interpolate`). What is refused on the way skips the combination.
-use mathlib.Core.Bool.{Bool, true, false}
+use mathlib.Core.Path.{_≡_}
+use mathlib.Core.Bool.{Bool, true, false, cond}
 use mathlib.Core.List.{List, [], _∷_}
-use Prim.Native.Nat.{ℕ, zero, suc}
+use Prim.Native.Nat.{ℕ, zero, suc, _<_}
 use lib.Dec.{eqb}
 use lib.IntN.{pos}
 use lib.ListN.{getD}
@@ -16,6 +17,7 @@ use Rattle.terms.specs.Poly.{termsOf}
 use Rattle.terms.specs.Machine.{plus, fine, plain, wholeR}
 use Rattle.terms.specs.Work.{zipped, scaled}
 use Rattle.terms.specs.Answer.{answerOf, refusedWith, productOf, valueOf}
+use Rattle.kronecker.specs.declared.Basis.{Basis}
 use Rattle.kronecker.specs.Points.{pointOf, onStep}
 
 abbrev pub skip : Answer
@@ -60,3 +62,20 @@ addedPart acc i n y = onAnswer (partOf i n y) skip (λ p. answerOf (zipped plain
 -- the sum of the parts
 unfoldable pub interpolatedOf : List Ratio → ℕ → Answer
 interpolatedOf ys n = repeated (λ i acc. addedPart acc i n (getD ys i zeroR)) n 0 []
+
+-- ---- how it lies in memory
+
+-- the part that is made of a basis
+abbrev pub partFrom : Basis → Ratio → Answer
+partFrom b y = cond (b .fine) (onStep (newOf (y .num) (b .at .num)) skip (λ s. answerOf (scaled plain (termsOf (b .poly)) s 0))) skip
+
+abbrev pub addedFrom : List Ratio → Basis → Ratio → Answer
+addedFrom acc b y = onAnswer (partFrom b y) skip (λ p. answerOf (zipped plain plus acc p 0))
+
+-- b is the basis of point i among n, whatever the value there is to be
+pub record Serves (i n : ℕ) (b : Basis) : Type 0 where
+  pub is : (y : Ratio) → partFrom b y ≡ partOf i n y
+
+-- the first i places hold the bases of their points among n
+pub record Serving (n i : ℕ) (rows : List Basis) : Type 0 where
+  pub each : (k : ℕ) → k < i → (d : Basis) → Serves k n (getD rows k d)

@@ -8,7 +8,7 @@ use ratio::Step;
 use terms::Answer;
 use terms::Poly;
 ghost use mathlib.Core.Path.{_≡_};
-ghost use mathlib.Core.Bool.{true, _&&_};
+ghost use mathlib.Core.Bool.{true, false, _&&_};
 ghost use mathlib.Core.List.{[], _∷_, _++_};
 ghost use Prim.Native.Nat.{_+_, _<_, _≤_};
 ghost use lib.IntN.{pos};
@@ -21,7 +21,7 @@ ghost use Rattle.terms.specs.Answer.{valueOf};
 ghost use Rattle.divisors.specs.Walk.{rest};
 ghost use Rattle.kronecker.specs.Points.{pointOf, isWhole, allWhole, surveyed};
 ghost use Rattle.kronecker.specs.Combinations.{Stored, rowsOf, grown, gathered, gatheringOf};
-ghost use Rattle.kronecker.specs.Interpolation.{skip, awayFrom, basisStep, basisOf, partOf, addedPart, interpolatedOf};
+ghost use Rattle.kronecker.specs.Interpolation.{skip, awayFrom, basisStep, basisOf, Serves, Serving, partFrom, addedFrom, interpolatedOf};
 ghost use Rattle.kronecker.specs.Split.{without, isOver, judged, triedOf, triedFrom, triedGathered, triedAt, mostOf, trySplitOf};
 
 // What a search for a factor comes to: found, none so far, none at all, or refused.
@@ -57,6 +57,18 @@ struct Combinations {
 struct Gathered {
     outcome: Outcome,
     combinations: Combinations,
+}
+
+// What the part of a sum at one point is made of, whatever its value is to be: the product for that point, and its own value there.
+struct Basis {
+    fine: bool,
+    poly: Poly,
+    at: Ratio,
+}
+
+// One for each point in use. They are the same for all combinations, so they are made once.
+struct Parts {
+    rows: [Basis; 7],
 }
 
 // ---- points and values
@@ -283,7 +295,7 @@ fn one() -> Poly
 }
 
 // The product of x less point j, over the n points but number i.
-fn basis(i: usize, n: usize) -> Answer
+fn product(i: usize, n: usize) -> Answer
     ensures { λ r. ⌜ r ≡ basisOf i n ⌝ }
 {
     let mut acc = one();
@@ -300,29 +312,70 @@ fn basis(i: usize, n: usize) -> Answer
     terms::done(acc.normalise(), 0)
 }
 
-// The polynomial that is y at point i and 0 at the others.
-fn part(i: usize, n: usize, y: Ratio) -> Answer
-    ensures { λ r. ⌜ r ≡ partOf i n y ⌝ }
+fn no_basis() -> Basis
+    ensures { λ r. ⌜ r .fine ≡ false ⌝ }
 {
-    let b = basis(i, n);
+    Basis {
+        fine: false,
+        poly: Poly::zero(),
+        at: whole(0),
+    }
+}
+
+fn basis_at(i: usize, n: usize) -> Basis
+    ensures { λ r. ⌜ Serves i n r ⌝ }
+{
+    let b = product(i, n);
     let o = b.outcome;
     if let Outcome::Refused(_) = o {
-        return skipped();
+        return no_basis();
     }
     let p = b.poly;
     let Step::Done(d) = p.value_at(point(i)) else {
-        return skipped();
+        return no_basis();
     };
+    Basis {
+        fine: true,
+        poly: p,
+        at: d,
+    }
+}
+
+// The bases of n points.
+fn prepared(n: usize) -> Parts
+    requires { ⌜ n ≤ 7 ⌝ }
+    ensures { λ r. ⌜ Serving n n (r .rows) ⌝ }
+{
+    let mut out = Parts {
+        rows: [no_basis(); 7],
+    };
+    let mut i: usize = 0;
+    while i < n {
+        out.rows[i] = basis_at(i, n);
+        i += 1;
+    }
+    out
+}
+
+// The polynomial that is y at the basis' own point and 0 at the others.
+fn part(b: Basis, y: Ratio) -> Answer
+    ensures { λ r. ⌜ r ≡ partFrom b y ⌝ }
+{
+    if !b.fine {
+        return skipped();
+    }
+    let d = b.at;
     let Step::Done(s) = Ratio::new(y.num, d.num) else {
         return skipped();
     };
+    let p = b.poly;
     p.scale(s)
 }
 
-fn add_part(acc: Poly, i: usize, n: usize, y: Ratio) -> Answer
-    ensures { λ r. ⌜ r ≡ addedPart (termsOf acc) i n y ⌝ }
+fn add_part(acc: Poly, b: Basis, y: Ratio) -> Answer
+    ensures { λ r. ⌜ r ≡ addedFrom (termsOf acc) b y ⌝ }
 {
-    let t = part(i, n, y);
+    let t = part(b, y);
     let o = t.outcome;
     if let Outcome::Refused(_) = o {
         return skipped();
@@ -332,15 +385,16 @@ fn add_part(acc: Poly, i: usize, n: usize, y: Ratio) -> Answer
 }
 
 // The polynomial of least degree with a combination's values at the points.
-fn interpolate(c: Combination, n: usize) -> Answer
-    requires { ⌜ n ≤ 7 ⌝ }
+fn interpolate(c: Combination, n: usize, all: Parts) -> Answer
+    requires { ⌜ (n ≤ 7) × Serving n n (all .rows) ⌝ }
     ensures { λ r. ⌜ r ≡ interpolatedOf (take n (c .values)) n ⌝ }
 {
     let mut acc = Poly::zero();
     let mut i: usize = 0;
     while i < n {
         let y = c.values[i];
-        let a = add_part(acc, i, n, y);
+        let b = all.rows[i];
+        let a = add_part(acc, b, y);
         let o = a.outcome;
         if let Outcome::Refused(_) = o {
             return skipped();
@@ -414,11 +468,11 @@ fn judge(f: Poly, c: Poly) -> Split
     }
 }
 
-fn try_one(f: Poly, c: Combination, n: usize) -> Split
-    requires { ⌜ n ≤ 7 ⌝ }
+fn try_one(f: Poly, c: Combination, n: usize, parts: Parts) -> Split
+    requires { ⌜ (n ≤ 7) × Serving n n (parts .rows) ⌝ }
     ensures { λ r. ⌜ r ≡ triedOf (termsOf f) n (take n (c .values)) ⌝ }
 {
-    let a = interpolate(c, n);
+    let a = interpolate(c, n, parts);
     let o = a.outcome;
     if let Outcome::Refused(_) = o {
         return without(Verdict::Next);
@@ -432,10 +486,11 @@ fn try_all(f: Poly, all: Combinations, n: usize) -> Split
     ensures { λ r. ⌜ r ≡ triedFrom (termsOf f) n (rowsOf n all) ⌝ }
 {
     let len = all.len;
+    let parts = prepared(n);
     let mut i: usize = 0;
     while i < len {
         let c = all.rows[i];
-        let s = try_one(f, c, n);
+        let s = try_one(f, c, n, parts);
         if is_over(s) {
             return s;
         }

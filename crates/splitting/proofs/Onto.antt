@@ -1,13 +1,15 @@
 -- Laws of splitting, one for each way that it goes on or ends.
-use mathlib.Core.Path.{_≡_, refl, ap, _∙_}
+use mathlib.Core.Path.{_≡_, refl, sym, ap, subst, _∙_}
 use mathlib.Core.Bool.{true, false}
 use mathlib.Core.List.{List, []}
 use Prim.Native.Nat.{ℕ, zero, suc, _+_, _-_, _<_, _≤_}
+use native.Mathlib.Decide.{ℕ-discrete}
 use native.Mathlib.Omega.{arith}
 use borrow.Author.Tests.{lt-ltb, le-ltb, eq-eqb, ne-eqb}
 use native.Mathlib.Numerals.{add-one}
 use lib.ListN.{length, drop, getD, set, drop-of-length-le}
 use lib.Seq.{drop-cons}
+use Rattle.ratio.specs.declared.Outcome.{Outcome}
 use Rattle.ratio.specs.declared.Outcome.the-variants as O
 use Rattle.ratio.specs.declared.Ratio.{Ratio}
 use Rattle.ratio.specs.declared.Reason.{Reason}
@@ -21,11 +23,11 @@ use Rattle.yun.specs.Answer.{piecesOf, foundAll, refusedFor, decompositionOf}
 use Rattle.yun.specs.Got.{Got, got, none}
 use Rattle.splitting.specs.declared.Left.{Left}
 use Rattle.splitting.specs.declared.Pair.{Pair}
-use Rattle.splitting.specs.Peel.{added, Peel, start, peeled, rootsIn, leftOf}
+use Rattle.splitting.specs.Peel.{added, addedUnless, Peel, start, peeled, rootsIn, leftOf}
 use Rattle.splitting.specs.Pair.{Padded, whole, both, pairOf, pairFrom}
 use Rattle.splitting.specs.Split.{Kept, Splits, splitOnto, splitAll}
-use Rattle.splitting.proofs.Places.{add-full, add-done, list-got, list-kept, list-none}
-use Rattle.splitting.proofs.Peels.{Peeled, peeled-done, peeled-none}
+use Rattle.splitting.proofs.Places.{unless-none, unless-some, add-full, add-done, list-got, list-kept, list-none}
+use Rattle.splitting.proofs.Peels.{Peeled, left-done, peeled-done, peeled-none}
 use Rattle.splitting.proofs.Halves.{pair-is-none, pair-is-whole, pair-is-both}
 use Rattle.splitting.proofs.Shorter.{factor-shorter, quotient-shorter}
 
@@ -90,16 +92,28 @@ module _ (f : List Ratio) (times budget : ℕ) (d : Decomposition) (kept : Kept 
   pub splits-line : length f ≡ 2 → (x : Decomposition) → x ≡ foundAll (added f times (piecesOf d)) → Splits f times budget (piecesOf d) x
   splits-line h x e = record { is = each x (omega arith) (λ m l. e ∙ ap decompositionOf (onto-line f times budget (piecesOf d) m l h)) }
 
+  pub splits-short : length f < 3 → (x : Decomposition) → x ≡ foundAll (addedUnless f times (piecesOf d)) → Splits f times budget (piecesOf d) x
+  splits-short h x e = go (ℕ-discrete (length f) 2)
+    where
+      go : Dec (length f ≡ 2) → Splits f times budget (piecesOf d) x
+      go (yes p) = splits-line p x (e ∙ ap foundAll (unless-some f times (piecesOf d) (omega arith)))
+      go (no p) =
+          let c : length f < 2 = omega arith in
+          subst (Splits f times budget (piecesOf d)) (kept .is ∙ sym (e ∙ ap foundAll (unless-none f times (piecesOf d) c))) (splits-none c)
+
   module _ (s : 3 ≤ length f) (r : Roots) (e : r ≡ rootsOf f budget) where
     pub splits-refused : (why : Reason) → r .outcome ≡ O.Refused why → (x : Decomposition) → x ≡ refusedFor why → Splits f times budget (piecesOf d) x
     splits-refused why o x p = record { is = each x (omega arith) (λ m l. p ∙ ap decompositionOf (onto-refused f times budget (piecesOf d) m s r e why o)) }
 
     module _ (o : r .outcome ≡ O.Done) where
       module _ (p : 0 < r .len) (l : Left) (q : l ≡ leftOf (peeled times (rootsIn r) (start (piecesOf d) f))) where
-        pub splits-stopped : (why : Reason) → l .found .outcome ≡ O.Refused why → Splits f times budget (piecesOf d) (l .found)
+        splits-stopped : (why : Reason) → l .found .outcome ≡ O.Refused why → Splits f times budget (piecesOf d) (l .found)
         splits-stopped why u =
             let v = peeled-none l (peeled times (rootsIn r) (start (piecesOf d) f)) why q u in
             record { is = each (l .found) (omega arith) (λ m h. ap (λ (x : Left). x .found) (q ∙ ap leftOf v) ∙ ap decompositionOf (onto-stopped f times budget (piecesOf d) m s r e o p why v)) }
+
+        pub peel-done : 2 ≤ length (termsOf (l .rest)) → l .found .outcome ≡ O.Done
+        peel-done h = left-done l (peeled times (rootsIn r) (start (piecesOf d) f)) q (omega arith)
 
         module _ (u : l .found .outcome ≡ O.Done) where
           peel-told : Peeled (peeled times (rootsIn r) (start (piecesOf d) f)) (l .found) (l .rest)
@@ -114,16 +128,24 @@ module _ (f : List Ratio) (times budget : ℕ) (d : Decomposition) (kept : Kept 
           pub splits-rest : length (termsOf (l .rest)) < length f → (x : Decomposition) → Splits (termsOf (l .rest)) times budget (piecesOf (l .found)) x → Splits f times budget (piecesOf d) x
           splits-rest h x w = record { is = each x (omega arith) (λ m k. w .is m (omega arith) ∙ ap decompositionOf (onto-rest f times budget (piecesOf d) m s r e o p (start (piecesOf (l .found)) (termsOf (l .rest))) (peel-told .is) h)) }
 
-          pub splits-kept : length f ≤ length (termsOf (l .rest)) → (x : Decomposition) → x ≡ foundAll (added (termsOf (l .rest)) times (piecesOf (l .found))) → Splits f times budget (piecesOf d) x
-          splits-kept h x w = record { is = each x (omega arith) (λ m k. w ∙ ap decompositionOf (onto-kept f times budget (piecesOf d) m s r e o p (start (piecesOf (l .found)) (termsOf (l .rest))) (peel-told .is) h)) }
+          pub splits-kept : length f ≤ length (termsOf (l .rest)) → (x : Decomposition) → x ≡ foundAll (addedUnless (termsOf (l .rest)) times (piecesOf (l .found))) → Splits f times budget (piecesOf d) x
+          splits-kept h x w = record { is = each x (omega arith) (λ m k. w ∙ ap foundAll (unless-some (termsOf (l .rest)) times (piecesOf (l .found)) (omega arith)) ∙ ap decompositionOf (onto-kept f times budget (piecesOf d) m s r e o p (start (piecesOf (l .found)) (termsOf (l .rest))) (peel-told .is) h)) }
+
+        -- what is refused leaves nothing to split
+        pub splits-few : length (termsOf (l .rest)) < 2 → Splits f times budget (piecesOf d) (l .found)
+        splits-few h = go (l .found .outcome) refl
+          where
+            go : (o : Outcome) → l .found .outcome ≡ o → Splits f times budget (piecesOf d) (l .found)
+            go O.Done u = splits-rest u (omega arith) (l .found) (record { is = λ k n. peel-kept-list u .is ∙ ap decompositionOf (onto-none (termsOf (l .rest)) times budget (piecesOf (l .found)) k h) })
+            go (O.Refused why) u = splits-stopped why u
 
       module _ (p : r .len ≤ 0) (h : Pair) (q : pairFrom h ≡ pairOf f budget) where
         pub splits-pairless : (why : Reason) → h .outcome ≡ O.Refused why → (x : Decomposition) → x ≡ refusedFor why → Splits f times budget (piecesOf d) x
         splits-pairless why u x w = record { is = each x (omega arith) (λ m l. w ∙ ap decompositionOf (onto-pairless f times budget (piecesOf d) m s r e o p why (pair-is-none h (pairOf f budget) why q u))) }
 
         module _ (u : h .outcome ≡ O.Done) where
-          pub splits-whole : h .two ≡ false → (x : Decomposition) → x ≡ foundAll (added f times (piecesOf d)) → Splits f times budget (piecesOf d) x
-          splits-whole t x w = record { is = each x (omega arith) (λ m l. w ∙ ap decompositionOf (onto-whole f times budget (piecesOf d) m s r e o p (pair-is-whole h (pairOf f budget) q u t))) }
+          pub splits-whole : h .two ≡ false → (x : Decomposition) → x ≡ foundAll (addedUnless f times (piecesOf d)) → Splits f times budget (piecesOf d) x
+          splits-whole t x w = record { is = each x (omega arith) (λ m l. w ∙ ap foundAll (unless-some f times (piecesOf d) (omega arith)) ∙ ap decompositionOf (onto-whole f times budget (piecesOf d) m s r e o p (pair-is-whole h (pairOf f budget) q u t))) }
 
           module _ (t : h .two ≡ true) where
             two-told : pairOf f budget ≡ got (both (termsOf (h .factor)) (termsOf (h .quotient)))

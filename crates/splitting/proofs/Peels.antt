@@ -106,6 +106,11 @@ left-padded : (l : Left) (g : Got Peel) → l ≡ leftOf g → Padded (l .rest)
 left-padded l (got p) e = record { is = rw e (ap polyOf (sym (terms-of-poly (p .rest)))) }
 left-padded l (none why) e = record { is = rw e refl }
 
+-- where something is left, nothing was refused
+pub left-done : (l : Left) (g : Got Peel) → l ≡ leftOf g → 0 < length (termsOf (l .rest)) → l .found .outcome ≡ O.Done
+left-done l (got p) e h = ap (λ (x : Left). x .found .outcome) e
+left-done l (none why) e h = let n : length (termsOf (l .rest)) ≡ 0 = ap (λ (x : Left). length (termsOf (x .rest))) e in absurd (omega arith)
+
 -- what was peeled tells what was found and what is left
 pub record Peeled (g : Got Peel) (found : Decomposition) (rest : Poly) : Type 0 where
   pub is : g ≡ got (start (piecesOf found) (termsOf rest))

@@ -17,7 +17,7 @@ use Rattle.remainders.proofs.CodeAnswer.{done-refused}
 use Rattle.yun.specs.Answer.{piecesOf, foundAll, decompositionOf}
 use Rattle.yun.specs.Got.{Got, got, none}
 use Rattle.yun.proofs.CodeFound.{found-pieces, one-more}
-use Rattle.splitting.specs.Peel.{added}
+use Rattle.splitting.specs.Peel.{added, addedUnless}
 use Rattle.splitting.specs.Pair.{Padded}
 use Rattle.splitting.specs.Split.{Kept}
 
@@ -48,6 +48,13 @@ add-done d p times k e h =
     (ap {B = Decomposition} (λ (d : Decomposition). record { outcome = d .outcome; pieces = set (d .pieces) (d .len) x; len = d .len + 1 }) (k .is)
     ∙ one-more (piecesOf d) x l
     ∙ ap (λ (q : Poly). foundAll (piecesOf d ++ (record { poly = q; times = times } ∷ []))) (e .is))
+
+-- a constant is no factor
+pub unless-none : (p : List Ratio) (times : ℕ) (l : List Piece) → length p < 2 → addedUnless p times l ≡ l
+unless-none p times l h = rw (lt-ltb (length p) 2 h)
+
+pub unless-some : (p : List Ratio) (times : ℕ) (l : List Piece) → 2 ≤ length p → addedUnless p times l ≡ added p times l
+unless-some p times l h = rw (le-ltb (length p) 2 h)
 
 -- ---- what a list of factors in memory says of the work behind it
 

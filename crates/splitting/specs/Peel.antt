@@ -35,6 +35,10 @@ ifRoom false more found = found
 unfoldable pub added : List Ratio → ℕ → List Piece → List Piece
 added p times found = ifRoom (ltb (length found) 32) (found ++ (piece p times ∷ [])) found
 
+-- the same, of a constant nothing
+abbrev pub addedUnless : List Ratio → ℕ → List Piece → List Piece
+addedUnless p times found = cond (ltb (length p) 2) found (added p times found)
+
 -- x less r
 abbrev pub line : Ratio → List Ratio
 line n = n ∷ wholeR (pos 1) ∷ []

@@ -12,11 +12,13 @@ use yun::Decomposition;
 use yun::Piece;
 ghost use mathlib.Core.Path.{_≡_};
 ghost use mathlib.Core.Bool.{false};
-ghost use mathlib.Core.List.{[]};
-ghost use lib.ListN.{length};
+ghost use mathlib.Core.List.{List, []};
+ghost use lib.ListN.{length, take};
+ghost use Rattle.ratio.specs.declared.Ratio.{Ratio};
 ghost use Rattle.terms.specs.Poly.{termsOf};
+ghost use Rattle.yun.specs.declared.Piece.{Piece};
 ghost use Rattle.yun.specs.Answer.{foundAll, piecesOf, decompositionOf};
-ghost use Rattle.splitting.specs.Peel.{added, lineAnswer, rootsIn, start, peeled, leftOf, stoppedFor, PeelsOff};
+ghost use Rattle.splitting.specs.Peel.{addedUnless, lineAnswer, rootsIn, start, peeled, leftOf, stoppedFor, PeelsOff};
 ghost use Rattle.splitting.specs.Pair.{Padded, PaddedPair, pairOf, pairedBy, pairFrom};
 ghost use Rattle.splitting.specs.Split.{Kept, Splits, splitAll};
 
@@ -34,11 +36,14 @@ struct Pair {
     quotient: Poly,
 }
 
-// p found as often as `times` says, where there is a place left for it.
+// p found as often as `times` says, where there is a place left for it; of a constant nothing.
 fn add(found: Decomposition, p: Poly, times: u64) -> Decomposition
     requires { ⌜ Kept found × Padded p ⌝ }
-    ensures { λ r. ⌜ r ≡ foundAll (added (termsOf p) times (piecesOf found)) ⌝ }
+    ensures { λ r. ⌜ r ≡ foundAll (addedUnless (termsOf p) times (piecesOf found)) ⌝ }
 {
+    if p.length() < 2 {
+        return found;
+    }
     let n = found.len;
     if n >= 32 {
         return found;
@@ -114,11 +119,10 @@ fn peel_one(f: Poly, r: Ratio) -> Pair
     }
 }
 
-// How many roots there are.
-fn count(roots: Roots) -> usize
-    ensures { λ n. ⌜ n ≡ length (rootsIn roots) ⌝ }
+// How many roots an answer has that says n.
+fn count(n: usize) -> usize
+    ensures { λ r. ⌜ ((l : List Ratio) → length l ≡ 32 → r ≡ length (take n l)) ⌝ }
 {
-    let n = roots.len;
     if n < 32 { n } else { 32 }
 }
 
@@ -126,7 +130,7 @@ fn peel(found: Decomposition, f: Poly, roots: Roots, times: u64) -> Left
     requires { ⌜ Kept found × Padded f ⌝ }
     ensures { λ l. ⌜ l ≡ leftOf (peeled times (rootsIn roots) (start (piecesOf found) (termsOf f))) ⌝ }
 {
-    let n = count(roots);
+    let n = count(roots.len);
     let mut now = found;
     let mut rest = f;
     let mut i: usize = 0;
@@ -206,15 +210,13 @@ fn halve(f: Poly, budget: u64) -> Pair
 // ---- splitting
 
 // f split into factors, found as often as `times` says; each call works on a lower degree.
+// Where the roots are refused, nothing is left to split, so that one test serves for both.
 fn split(found: Decomposition, f: Poly, times: u64, budget: u64) -> Decomposition
     requires { ⌜ Kept found × Padded f ⌝ }
     ensures { λ r. ⌜ Splits (termsOf f) times budget (piecesOf found) r ⌝ }
 {
     let n = f.length();
-    if n < 2 {
-        return found;
-    }
-    if n == 2 {
+    if n < 3 {
         return add(found, f, times);
     }
     let roots = search::roots_of(f, budget);
@@ -224,20 +226,14 @@ fn split(found: Decomposition, f: Poly, times: u64, budget: u64) -> Decompositio
     }
     if roots.len > 0 {
         let l = peel(found, f, roots, times);
-        let lf = l.found;
-        let rest = l.rest;
-        let lo = lf.outcome;
-        if let Outcome::Refused(_) = lo {
-            return lf;
-        }
-        let m = rest.length();
+        let m = l.rest.length();
         if m < 2 {
-            return lf;
+            return l.found;
         }
         if m < n {
-            return split(lf, rest, times, budget);
+            return split(l.found, l.rest, times, budget);
         }
-        return add(lf, rest, times);
+        return add(l.found, l.rest, times);
     }
     let p = halve(f, budget);
     let po = p.outcome;
@@ -247,21 +243,19 @@ fn split(found: Decomposition, f: Poly, times: u64, budget: u64) -> Decompositio
     if !p.two {
         return add(found, f, times);
     }
-    let g = p.factor;
-    let q = p.quotient;
-    let a = split(found, g, times, budget);
+    let a = split(found, p.factor, times, budget);
     let ao = a.outcome;
     if let Outcome::Refused(_) = ao {
         return a;
     }
-    split(a, q, times, budget)
+    split(a, p.quotient, times, budget)
 }
 
 // Every factor of a decomposition is split; the multiplicities are kept. A linear one is laid in place, so that the list isn't copied for it.
 pub fn split_all(d: Decomposition, budget: u64) -> Decomposition
     ensures is { λ r. ⌜ r ≡ decompositionOf (splitAll (piecesOf d) budget []) ⌝ }
 {
-    let n = size(d);
+    let n = size(d.len);
     let mut found = yun::nothing();
     let mut i: usize = 0;
     while i < n {
@@ -291,9 +285,9 @@ pub fn split_all(d: Decomposition, budget: u64) -> Decomposition
     found
 }
 
-fn size(d: Decomposition) -> usize
-    ensures { λ n. ⌜ n ≡ length (piecesOf d) ⌝ }
+// How many factors a list has that says n.
+fn size(n: usize) -> usize
+    ensures { λ r. ⌜ ((l : List Piece) → length l ≡ 32 → r ≡ length (take n l)) ⌝ }
 {
-    let n = d.len;
     if n < 32 { n } else { 32 }
 }

@@ -6,8 +6,6 @@ use native.Mathlib.Omega.{arith}
 use lib.ListN.{length, set, replicate, length-append, length-replicate}
 use lib.Seq.{take-append-seam, set-append-seam}
 use Rattle.ratio.specs.declared.Ratio.{Ratio}
-use Rattle.terms.specs.declared.Poly.{Poly}
-use Rattle.terms.specs.Poly.{termsOf, polyOf}
 use Rattle.yun.specs.declared.Piece.{Piece}
 use Rattle.yun.specs.declared.Decomposition.{Decomposition}
 use Rattle.yun.specs.Got.{Got, got, none}
@@ -17,22 +15,9 @@ use Rattle.yun.specs.Answer.{noPiece, piecesOf, foundAll, decompositionO
 pub found-pieces : (l : List Piece) → piecesOf (foundAll l) ≡ l
 found-pieces l = take-append-seam l (replicate (32 - length l) noPiece)
 
-pub held : (l : List Piece) → length l < 32 → Held (foundAll l)
-held l h = record { is = ap foundAll (sym (found-pieces l)); room = rw (found-pieces l) h }
-
 -- the place past the last one in use is one of the array's
 pub held-room : (found : Decomposition) → Held found → found .len < 32
 held-room found h = rw (ap (λ (d : Decomposition). d .len) (h .is)) (h .room)
-
-pub pushed-none : (p : List Ratio) (i : ℕ) (l : List Piece) → length p ≡ 0 → pushed p i l ≡ l
-unfolding pushed
-pushed-none [] i l h = refl
-pushed-none (x ∷ p) i l h = absurd (omega arith)
-
-pub pushed-some : (p : List Ratio) (i : ℕ) (l : List Piece) → 0 < length p → pushed p i l ≡ l ++ (piece p i ∷ [])
-unfolding pushed
-pushed-some [] i l h = absurd (omega arith)
-pushed-some (x ∷ p) i l h = refl
 
 pub pushed-length : (p : List Ratio) (i : ℕ) (l : List Piece) → length (pushed p i l) ≤ suc (length l)
 unfolding pushed
@@ -48,19 +33,7 @@ one-more l x h =
     let n : length (l ++ (x ∷ [])) ≡ length l + 1 = length-append l (x ∷ []) in
     rw (filled l x (32 - length l) (32 - (length l + 1)) (omega arith), n)
 
-pub push-done : (found : Decomposition) (p : Poly) (i : ℕ) → Held found → p ≡ polyOf (termsOf p) → 0 < length (termsOf p)
-    → _≡_ {A = Decomposition} (record { outcome = found .outcome; pieces = set (found .pieces) (found .len) (record { poly = p; times = i }); len = found .len + 1 }) (foundAll (pushed (termsOf p) i (piecesOf found)))
-push-done found p i h e s =
-    let x : Piece = record { poly = p; times = i } in
-    ap {B = Decomposition} (λ (d : Decomposition). record { outcome = d .outcome; pieces = set (d .pieces) (d .len) x; len = d .len + 1 }) (h .is)
-    ∙ one-more (piecesOf found) x (h .room)
-    ∙ ap (λ (q : Poly). foundAll (piecesOf found ++ (record { poly = q; times = i } ∷ []))) e
-    ∙ ap foundAll (sym (pushed-some (termsOf p) i (piecesOf found) s))
-
-pub push-none : (found : Decomposition) (p : List Ratio) (i : ℕ) → Held found → length p ≡ 0 → found ≡ foundAll (pushed p i (piecesOf found))
-push-none found p i h e = h .is ∙ ap foundAll (sym (pushed-none p i (piecesOf found) e))
-
--- the same in place: a factor that isn't there takes no place
+-- a factor that isn't there takes no place
 none-more : (l : List Piece) → length l < 32 → _≡_ {A = Decomposition} (record { outcome = foundAll l .outcome; pieces = set (foundAll l .pieces) (foundAll l .len) noPiece; len = foundAll l .len + 0 }) (foundAll l)
 none-more l h =
     let e : 32 - length l ≡ suc (31 - length l) = omega arith in
@@ -76,6 +49,10 @@ pub stored : (found : Decomposition) (p : List Ratio) (i : ℕ) → Held found �
 stored found p i h =
     ap {B = Decomposition} (λ (d : Decomposition). record { outcome = d .outcome; pieces = set (d .pieces) (d .len) (pieceFor p i); len = d .len + roomFor p }) (h .is)
     ∙ stored-at (piecesOf found) p i (h .room)
+
+pub stored-first : (empty : Decomposition) (p : List Ratio) (x : Piece) (k : ℕ) → empty ≡ foundAll [] → x ≡ pieceFor p 1 → k ≡ roomFor p
+    → _≡_ {A = Decomposition} (record { outcome = empty .outcome; pieces = set (empty .pieces) (empty .len) x; len = empty .len + k }) (foundAll (pushed p 1 []))
+stored-first empty p x k e ex ek = rw (e, ex, ek) (stored-at [] p 1 (omega arith))
 
 pub piece-none : (p : List Ratio) (i : ℕ) → length p ≡ 0 → noPiece ≡ pieceFor p i
 piece-none [] i h = refl

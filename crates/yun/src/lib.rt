@@ -10,7 +10,7 @@ ghost use mathlib.Core.List.{[]};
 ghost use lib.ListN.{length};
 ghost use Rattle.ratio.specs.declared.Outcome.the-variants as O;
 ghost use Rattle.terms.specs.Poly.{termsOf, polyOf};
-ghost use Rattle.yun.specs.Answer.{noPiece, refusedFor, foundAll, decompositionOf, piecesOf, Held, overWith, Turns, pieceFor, roomFor};
+ghost use Rattle.yun.specs.Answer.{noPiece, refusedFor, foundAll, decompositionOf, overWith, Turns, pieceFor, roomFor};
 ghost use Rattle.yun.specs.Round.{pushed, factorOf, ended, cutBy, turnOf};
 ghost use Rattle.yun.specs.Yun.{rounds as roundsOf, splitBy, splitOf, foundOr, squareFrees};
 ghost use Rattle.terms.specs.Answer.{answerOf};
@@ -68,27 +68,35 @@ pub fn nothing() -> Decomposition
     }
 }
 
-// p found i times; of an empty p nothing.
-fn push(found: Decomposition, p: Poly, i: u64) -> Decomposition
-    requires { ⌜ Held found × (p ≡ polyOf (termsOf p)) ⌝ }
-    ensures { λ r. ⌜ r ≡ foundAll (pushed (termsOf p) i (piecesOf found)) ⌝ }
+// p found i times; of an empty p what an unused place holds.
+fn piece_of(p: Poly, i: u64) -> Piece
+    requires { ⌜ p ≡ polyOf (termsOf p) ⌝ }
+    ensures { λ r. ⌜ r ≡ pieceFor (termsOf p) i ⌝ }
 {
     if p.length() == 0 {
-        return found;
+        no_piece()
+    } else {
+        Piece { poly: p, times: i }
     }
-    let mut out = found;
-    let n = out.len;
-    out.pieces[n] = Piece { poly: p, times: i };
-    out.len = n + 1;
-    out
 }
 
-// f stays whole.
+// How many places p takes in the list.
+fn room(p: Poly) -> usize
+    ensures { λ r. ⌜ r ≡ roomFor (termsOf p) ⌝ }
+{
+    if p.length() == 0 { 0 } else { 1 }
+}
+
+// f stays whole; of an empty f nothing.
 fn whole(f: Poly) -> Decomposition
     requires { ⌜ f ≡ polyOf (termsOf f) ⌝ }
     ensures { λ r. ⌜ r ≡ foundAll (pushed (termsOf f) 1 []) ⌝ }
 {
-    push(nothing(), f, 1)
+    let mut out = nothing();
+    let n = out.len;
+    out.pieces[n] = piece_of(f, 1);
+    out.len = n + room(f);
+    out
 }
 
 // The loop ends.
@@ -209,25 +217,6 @@ fn turn(b: Poly, c: Poly) -> Round
     }
     let a = g.poly;
     cut(b, d, a)
-}
-
-// p found i times; of an empty p what an unused place holds.
-fn piece_of(p: Poly, i: u64) -> Piece
-    requires { ⌜ p ≡ polyOf (termsOf p) ⌝ }
-    ensures { λ r. ⌜ r ≡ pieceFor (termsOf p) i ⌝ }
-{
-    if p.length() == 0 {
-        no_piece()
-    } else {
-        Piece { poly: p, times: i }
-    }
-}
-
-// How many places p takes in the list.
-fn room(p: Poly) -> usize
-    ensures { λ r. ⌜ r ≡ roomFor (termsOf p) ⌝ }
-{
-    if p.length() == 0 { 0 } else { 1 }
 }
 
 // The rounds from b and c on, at most as many as f has coefficients: the factor found in round i occurs i times. Where none is, f stays whole.

@@ -29,7 +29,8 @@ loop-holds : tie.Need-loop-holds Inv-loop μ-loop
 loop-holds c =
     let s = c .before .before .before .args in
     let e : length (s .t1 .pieces) ≡ 32 = search (needs, long) in
-    (c .before .before .count .ensures, omega (arith, c .before .before .count .ensures, within-32 (s .t1 .len) (s .t1 .pieces) e), omega arith, building-none (factorsIn (s .t1)) (trim (s .t1 .content ∷ [])) (c .constant .result) (c .constant .ensures))
+    let n = c .before .before .count .ensures (s .t1 .pieces) e in
+    (n, omega (arith, n, within-32 (s .t1 .len) (s .t1 .pieces) e), omega arith, building-none (factorsIn (s .t1)) (trim (s .t1 .content ∷ [])) (c .constant .result) (c .constant .ensures))
 
 mul-piece : tie.Need-mul-piece Inv-loop μ-loop
 mul-piece c = omega arith

@@ -14,17 +14,17 @@ enum-told c = c .match .keys1
 decompose-requires : tie.Need-decompose-requires
 decompose-requires c κs = tt
 
-reason-requires : tie.Need-reason-requires
-reason-requires c κs = tt
-
-refused-requires : tie.Need-refused-requires
-refused-requires c κs = tt
-
 returns : tie.Need-returns
 returns c =
     let g = c .before .before .before in
     decomposition-both (g .before .args .f) (c .decompose .result)
     (open-entered (g .door .result) _ (g .door .ensures) (c .before .enum-told .given .1) refusedFor _ (c .decompose .result) (c .decompose .ensures))
+
+reason-requires : tie.Need-reason-requires
+reason-requires c κs = tt
+
+refused-requires : tie.Need-refused-requires
+refused-requires c κs = tt
 
 returns-2 : tie.Need-returns-2
 returns-2 c =
@@ -40,7 +40,7 @@ square-free-decomposition-spec =
     door-requires
     enum-told
     decompose-requires
+    returns
     reason-requires
     refused-requires
-    returns
     returns-2)

@@ -19,7 +19,7 @@ returns : tie.Need-returns
 returns c =
     let p = c .before .before .before in
     let s = p .before .args in
-    c .skipped .ensures ∙ added-none (termsOf (s .acc)) (s .i) (s .n) (s .y) (p .part .result) (p .part .ensures) _ (c .before .enum-told .given .1)
+    c .skipped .ensures ∙ added-none (termsOf (s .acc)) (s .b) (s .y) (p .part .result) (p .part .ensures) _ (c .before .enum-told .given .1)
 
 enum-told-2 : tie.Need-enum-told-2
 enum-told-2 c = search needs
@@ -31,7 +31,7 @@ returns-2 : tie.Need-returns-2
 returns-2 c =
     let p = c .before .before .before .before in
     let s = p .before .args in
-    c .zip .ensures ∙ added-done (termsOf (s .acc)) (s .i) (s .n) (s .y) (p .part .result) (p .part .ensures) (c .before .before .enum-told2 .given .1)
+    c .zip .ensures ∙ added-done (termsOf (s .acc)) (s .b) (s .y) (p .part .result) (p .part .ensures) (c .before .before .enum-told2 .given .1)
 
 pub add-part-spec : {M : Type 1} → statement M
 add-part-spec =

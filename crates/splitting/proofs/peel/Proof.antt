@@ -28,7 +28,8 @@ loop-holds : tie.Need-loop-holds Inv-loop μ-loop
 loop-holds c =
     let s = c .before .args in
     let e : length (s .t3 .values) ≡ 32 = search (needs, long) in
-    (c .count .ensures, omega (arith, c .count .ensures, within-32 (s .t3 .len) (s .t3 .values) e), omega arith, peeling-none (s .times) (rootsIn (s .t3)) (start (piecesOf (s .found)) (termsOf (s .f))) (s .found) (s .f) refl (c .before .pre .0) (c .before .pre .1))
+    let n = c .count .ensures (s .t3 .values) e in
+    (n, omega (arith, n, within-32 (s .t3 .len) (s .t3 .values) e), omega arith, peeling-none (s .times) (rootsIn (s .t3)) (start (piecesOf (s .found)) (termsOf (s .f))) (s .found) (s .f) refl (c .before .pre .0) (c .before .pre .1))
 
 mul-r : tie.Need-mul-r Inv-loop μ-loop
 mul-r c = omega arith

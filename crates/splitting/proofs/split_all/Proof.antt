@@ -29,7 +29,8 @@ loop-holds : tie.Need-loop-holds Inv-loop μ-loop
 loop-holds c =
     let s = c .before .before .args in
     let e : length (s .t1 .pieces) ≡ 32 = search (needs, long) in
-    (c .before .size .ensures, omega (arith, c .before .size .ensures, within-32 (s .t1 .len) (s .t1 .pieces) e), omega arith, splitting-none (piecesOf (s .t1)) (s .budget) (c .nothing .result) (c .nothing .ensures))
+    let n = c .before .size .ensures (s .t1 .pieces) e in
+    (n, omega (arith, n, within-32 (s .t1 .len) (s .t1 .pieces) e), omega arith, splitting-none (piecesOf (s .t1)) (s .budget) (c .nothing .result) (c .nothing .ensures))
 
 mul-piece : tie.Need-mul-piece Inv-loop μ-loop
 mul-piece c = omega arith
@@ -88,8 +89,8 @@ loop-again-2 c =
     let s = l .before .before .before .args in
     (l .loop .inv .0, l .loop .inv .1, omega arith, splitting-full (piecesOf (s .t1)) (s .budget) (l .loop .i) (l .loop .found) noPiece (omega arith) (l .loop .inv .3) _ (read-terms (s .t1 .len) (s .t1 .pieces) (l .loop .i) _ noPiece (omega arith)) (m .normalise .result) (ap termsOf (m .normalise .ensures) ∙ terms-of-poly _) (omega (arith, c .before .before .length .ensures)) (c .if2 .taken))
 
-mul-t15 : tie.Need-mul-t15 Inv-loop μ-loop
-mul-t15 c = omega arith
+mul-t16 : tie.Need-mul-t16 Inv-loop μ-loop
+mul-t16 c = omega arith
 
 element-set-from-found : tie.Need-element-set-from-found Inv-loop μ-loop
 element-set-from-found c = omega arith
@@ -135,7 +136,7 @@ split-all-spec =
     loop-again
     loop-less-2
     loop-again-2
-    mul-t15
+    mul-t16
     element-set-from-found
     add-found
     loop-less-3

@@ -1,4 +1,4 @@
--- `kronecker::basis` meets its contract. The loop's invariant: what is left to multiply by gives the whole product.
+-- `kronecker::product` meets its contract. The loop's invariant: what is left to multiply by gives the whole product.
 use Rattle.terms.specs.declared.Poly.{Poly}
 use Rattle.terms.specs.Answer.{doneWith}
 use mathlib.Core.Path.{ap, _∙_}
@@ -11,8 +11,8 @@ use lib.IntN.{pos}
 use Rattle.terms.specs.Machine.{wholeR}
 use Rattle.kronecker.specs.Interpolation.{basisStep, basisOf}
 use Rattle.kronecker.proofs.Repeats.{Repeating, repeating-none, repeating-more, repeating-over, repeating-all}
-use Rattle.kronecker.proofs.basis.Statement.{statement}
-use Rattle.kronecker.proofs.basis.Tie as tie
+use Rattle.kronecker.proofs.product.Statement.{statement}
+use Rattle.kronecker.proofs.product.Tie as tie
 
 abbrev Inv-loop : tie.InvT-loop
 Inv-loop i n acc₀ j₀ acc j = (j ≤ n) × Repeating (basisStep i) n (wholeR (pos 1) ∷ []) j (termsOf acc)
@@ -72,8 +72,8 @@ returns-2 c =
     let s = l .before .before .args in
     c .done .ensures ∙ ap (λ (p : Poly). doneWith p 0) (c .before .normalise .ensures) ∙ repeating-all (basisStep (s .i)) (s .n) (wholeR (pos 1) ∷ []) (l .loop .j) (termsOf (l .loop .acc)) (omega arith) (l .loop .inv .1)
 
-pub basis-spec : {M : Type 1} → statement M
-basis-spec =
+pub product-spec : {M : Type 1} → statement M
+product-spec =
     tie.close
     (tie.spec
     Inv-loop
