@@ -11,6 +11,8 @@ use Rattle.bisect.specs.Bracket.{Found, marked}
 use Rattle.bisect.specs.Cut.{countIn, rootAt, cutOf}
 use Rattle.bisect.specs.Bisect.{partly, innerOf, start, end}
 
+-- c is the chain by its rows, one for each entry
+
 -- a refusal ends the work
 abbrev pub after : {X : Type 0} → Got X → (X → ℕ) → ℕ
 after (got x) work = work x
