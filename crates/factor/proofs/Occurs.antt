@@ -18,7 +18,7 @@ use Rattle.yun.specs.Promise.{Every, Rising}
 use Rattle.yun.specs.Round.{piece}
 use Rattle.yun.proofs.MeaningPieces.{every-more}
 use Rattle.splitting.specs.Pair.{Halves, whole, both, pairOf}
-use Rattle.splitting.specs.Peel.{ifRoom, added, Peel, start, lineFrom, peelIf, peelOne, peeled, rootsIn}
+use Rattle.splitting.specs.Peel.{added, Peel, start, lineFrom, peelIf, peelOne, peeled, rootsIn}
 use Rattle.splitting.specs.Split.{Found, onRoots, onHalves, splitOnto, splitAll}
 
 abbrev pub Occurs : List Piece → Type 0
@@ -50,7 +50,7 @@ halves-holds whole r k h f = h
 halves-holds (both g q) r k h f = f g q
 
 module _ (times : ℕ) (some : 1 ≤ times) where
-  room : (b : Bool) (p : List Ratio) (found : List Piece) → Occurs found → Occurs (ifRoom b (found ++ (piece p times ∷ [])) found)
+  room : (b : Bool) (p : List Ratio) (found : List Piece) → Occurs found → Occurs (cond b (found ++ (piece p times ∷ [])) found)
   room true p found h = every-more (λ q. 1 ≤ q .times) found (piece p times) h some
   room false p found h = h
 

@@ -1,6 +1,6 @@
 -- Document 01, module 5, Kronecker: the polynomial with given values at the first n points (`lagrange_interpolate`). What is refused on the way skips the combination.
 use mathlib.Core.Path.{_≡_}
-use mathlib.Core.Bool.{Bool, true, false, cond}
+use mathlib.Core.Bool.{cond}
 use mathlib.Core.List.{List, [], _∷_}
 use Prim.Native.Nat.{ℕ, zero, suc, _<_}
 use lib.Dec.{eqb}
@@ -34,13 +34,9 @@ onAnswer a other k = onOutcome (a .outcome) other (k (termsOf (a .poly)))
 abbrev pub awayFrom : ℕ → List Ratio
 awayFrom j = ratioOf (negOf (pointOf j)) ∷ wholeR (pos 1) ∷ []
 
-abbrev pub unlessSame : Bool → Answer → Answer → Answer
-unlessSame true same other = same
-unlessSame false same other = other
-
 -- point i itself is left out
 abbrev pub basisStep : ℕ → ℕ → List Ratio → Answer
-basisStep i j acc = unlessSame (eqb i j) (answerOf (fine 0 acc)) (productOf acc (awayFrom j))
+basisStep i j acc = cond (eqb i j) (answerOf (fine 0 acc)) (productOf acc (awayFrom j))
 
 -- a step for each of n numbers from j on
 unfoldable pub repeated : (ℕ → List Ratio → Answer) → ℕ → ℕ → List Ratio → Answer

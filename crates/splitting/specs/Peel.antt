@@ -1,6 +1,6 @@
 -- Document 01, module 5, factors: each rational root r is divided out as x less r where that leaves no rest.
 use mathlib.Core.Path.{_≡_}
-use mathlib.Core.Bool.{Bool, true, false, cond}
+use mathlib.Core.Bool.{cond}
 use mathlib.Core.List.{List, [], _∷_, _++_}
 use Prim.Native.Nat.{ℕ}
 use lib.Dec.{ltb}
@@ -27,13 +27,9 @@ use Rattle.splitting.specs.declared.Left.{Left}
 use Rattle.splitting.specs.declared.Pair.{Pair}
 use Rattle.splitting.specs.Pair.{PaddedPair}
 
-abbrev pub ifRoom : Bool → List Piece → List Piece → List Piece
-ifRoom true more found = more
-ifRoom false more found = found
-
 -- p is found, as often as `times` says; there are 32 places
 unfoldable pub added : List Ratio → ℕ → List Piece → List Piece
-added p times found = ifRoom (ltb (length found) 32) (found ++ (piece p times ∷ [])) found
+added p times found = cond (ltb (length found) 32) (found ++ (piece p times ∷ [])) found
 
 -- the same, of a constant nothing
 abbrev pub addedUnless : List Ratio → ℕ → List Piece → List Piece
