@@ -1,4 +1,5 @@
 pub mod Canonical
+pub mod When
 pub mod Doors
 pub mod Powers
 pub mod Parts

@@ -1,4 +1,5 @@
 pub mod Door
+pub mod Canonical
 pub mod Parts
 pub mod Operations
 pub mod Promise

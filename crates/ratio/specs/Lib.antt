@@ -4,3 +4,4 @@ pub mod Number
 pub mod Gcd
 pub mod Step
 pub mod Promise
+pub mod When
