@@ -5,4 +5,5 @@ pub mod Stacks
 pub mod Runs
 pub mod Meaning
 pub mod Room
+pub mod Halting
 pub mod Checked

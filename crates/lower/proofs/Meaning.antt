@@ -39,7 +39,7 @@ use Rattle.lower.specs.declared.Unary.the-variants as U
 use Rattle.lower.specs.Exponent.{exponentOf}
 use Rattle.lower.specs.Stack.{Left, fine, stopped, constantBy, constantFrom, variableIf, combined, changed, pushedBy, pushed, one, two, raised, applied}
 use Rattle.lower.specs.Run.{andThen, runFrom, answered, unlessRefused, lowerOf}
-use Rattle.lower.specs.Promise.{onOne, onTwo, raisedTo, meant, meantAll, last, expressed}
+use Rattle.lower.specs.Promise.{onOne, onTwo, raisedTo, meant, meantAll, last, expressed, Match, none, some}
 
 -- equal polynomials in, equal ones out
 sum-equal : (a b p q : List Rat) → Equal a p → Equal b q → Equal (sum a b) (sum p q)
@@ -61,12 +61,7 @@ gives-as {a} {b} r e g = record { is = λ z. equal-trans (reading (r .poly)) a b
 power-one : Equal (power variable 1) variable
 power-one = poly-equal _ _ (poly-power variable 1 ∙ pow-one (Poly-ring ℚ-ring) (poly variable))
 
--- the values are these polynomials, each to each, and canonical
-data Match : List Poly → List (List Rat) → Type 0 where
-  none : Match [] []
-  some : (p : Poly) (q : List Rat) {l : List Poly} {m : List (List Rat)} → Equal (reading p) q → doorOf p ≡ Open → Match l m → Match (p ∷ l) (q ∷ m)
-
-data Fits : Left → List (List Rat) → Type 0 where
+pub data Fits : Left → List (List Rat) → Type 0 where
   held : {l : List Poly} {m : List (List Rat)} → Match l m → Fits (fine l) m
   over : {why : Reason} {m : List (List Rat)} → Fits (stopped why) m
 
@@ -110,7 +105,7 @@ raised-fits (W.Is n) none = over
 raised-fits (W.Is n) (some a p e d h) = pushed-fits (changed (U.Pow n) a) (gives-as (changed (U.Pow n) a) (power-equal (reading a) p n e) (pow-gives a n)) h
 raised-fits W.Nothing h = over
 
-applied-fits : (wrt : ℕ) (t : Token) {l : List Poly} {m : List (List Rat)} → Match l m → Fits (applied wrt t l) (meant t m)
+pub applied-fits : (wrt : ℕ) (t : Token) {l : List Poly} {m : List (List Rat)} → Match l m → Fits (applied wrt t l) (meant t m)
 applied-fits wrt (T.Const x) h = pushed-fits (constantFrom x) (constant-fits (toRatio x)) h
 applied-fits wrt (T.Var i) h = pushed-fits (variableIf i wrt) (variable-fits (eqb i wrt)) h
 applied-fits wrt T.Add h = add-fits h

@@ -31,7 +31,7 @@ use Rattle.lower.specs.Room.{bounded, boundedFrom}
 
 -- ---- what an answered check tells
 
-chosen : (b : Bool) (why : Reason) (o : Outcome) → cond b (O.Refused why) o ≡ O.Done → (b ≡ false) × (o ≡ O.Done)
+pub chosen : (b : Bool) (why : Reason) (o : Outcome) → cond b (O.Refused why) o ≡ O.Done → (b ≡ false) × (o ≡ O.Done)
 chosen true why o e = let z : _≡_ {A = ℕ} 0 1 = cc in absurd (omega arith)
 chosen false why o e = (refl, e)
 
@@ -53,7 +53,7 @@ after-deep : (t : Token) (h : Height) → after t h .deep ≡ false → h .deep 
 after-deep t h e = after-by (h .past) (isOther t) h _ _ (λ z. z) (λ z. deeper (h .deep) _ z) e
 
 -- over 16 values stay noted
-check-deep : (end at : ℕ) (h : Height) (ws : List (List ℕ)) → checkFrom end at h ws ≡ O.Done → h .deep ≡ false
+pub check-deep : (end at : ℕ) (h : Height) (ws : List (List ℕ)) → checkFrom end at h ws ≡ O.Done → h .deep ≡ false
 unfolding checkFrom
 check-deep end at h [] e = finish-deep (h .past) (eqb (h .values) 1) (h .deep) end e
 check-deep end at h (w ∷ ws) e =

@@ -12,12 +12,11 @@ ghost use Rattle.terms.specs.Poly.{polyOf, trim};
 ghost use Rattle.terms.specs.Answer.{refusedWith};
 ghost use Rattle.poly.specs.declared.Gate.the-variants.{Open};
 ghost use Rattle.poly.specs.Door.{doorOf};
-ghost use Rattle.poly.specs.Promise.{Gives};
 ghost use Rattle.lower.specs.Exponent.{exponentOf};
 ghost use Rattle.lower.specs.Stack.{constantFrom, variableIf, combined, changed};
 ghost use Rattle.lower.specs.Work.{raising, workOf, takesOf};
 ghost use Rattle.tokens.specs.Words.{wordsOf};
-ghost use Rattle.lower.specs.Promise.{expressed};
+ghost use Rattle.lower.specs.Promise.{Lowers};
 ghost use Rattle.lower.specs.Run.{unlessRefused, lowerOf};
 ghost use Rattle.lower.specs.Room.{alone, boundedFrom};
 
@@ -227,7 +226,7 @@ fn refusal(o: Outcome, why: Reason) -> Answer
 // A run that comes to one value has met nothing of these, so that an answered text is read once, and only a refused one is checked.
 pub fn from_lowered(text: &[u8], wrt: u64) -> Answer
     ensures is { λ r. ⌜ r ≡ lowerOf wrt (now (text .entry)) ⌝ }
-    ensures promise { λ r. ⌜ Gives (expressed (now (text .entry))) r ⌝ }
+    ensures promise { λ r. ⌜ Lowers wrt (now (text .entry)) r ⌝ }
 {
     let r = run(text, wrt);
     let o = r.outcome;

@@ -1,10 +1,9 @@
 -- `lower::from_lowered` meets its contract.
 use mathlib.Core.Path.{sym, ap, _∙_}
 use Rattle.terms.specs.Answer.{refusedWith}
-use Rattle.poly.proofs.Gives.{with-gives}
-use Rattle.lower.specs.Run.{unlessRefused, lowerOf}
+use Rattle.lower.specs.Run.{unlessRefused}
 use Rattle.lower.proofs.Checked.{answered-done, answered-refused}
-use Rattle.lower.proofs.Meaning.{lowers}
+use Rattle.lower.proofs.Halting.{with-lowers}
 use Rattle.lower.proofs.from_lowered.Statement.{statement}
 use Rattle.lower.proofs.from_lowered.Tie as tie
 
@@ -27,7 +26,7 @@ returns : tie.Need-returns
 returns c =
     let k = c .before .before in
     let s = k .before .before .args in
-    with-gives (k .run .result) (lowerOf (s .wrt) (s .text .now)) (lowers (s .wrt) (s .text .now))
+    with-lowers (s .wrt) (s .text .now) (k .run .result)
     (k .run .ensures ∙ answered-done (s .wrt) (s .text .now) (ap (λ r. r .outcome) (sym (k .run .ensures)) ∙ c .enum-told .given .1))
 
 returns-2 : tie.Need-returns-2
@@ -35,7 +34,7 @@ returns-2 c =
     let k = c .before .before .before .before .before in
     let s = k .before .before .args in
     let why = c .before .before .before .o .given .0 .0 in
-    with-gives (c .refusal .result) (lowerOf (s .wrt) (s .text .now)) (lowers (s .wrt) (s .text .now))
+    with-lowers (s .wrt) (s .text .now) (c .refusal .result)
     (c .refusal .ensures ∙ ap (λ o. unlessRefused o (refusedWith why 0)) (c .before .check .ensures)
     ∙ answered-refused (s .wrt) (s .text .now) why (ap (λ r. r .outcome) (sym (k .run .ensures)) ∙ c .before .before .before .o .given .1))
 
