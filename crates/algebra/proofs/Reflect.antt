@@ -54,7 +54,7 @@ module _ {A : Type 0} (R : CRing A) where
   code (rep-closed c) = c.expr
   code (rep_at p) = var (index p)
 
-  look_at : {ρ : List A} {a : A} (p : At a ρ) → look R ρ (index p) ≡ a
+  look_at : {a : A} {ρ : List A} (p : At a ρ) → look R ρ (index p) ≡ a
   look_at here = refl
   look_at (there p) = look_at p
 

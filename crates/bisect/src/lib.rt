@@ -1,5 +1,7 @@
 // The brackets of real roots, found by halving (document 01, module 6; `bisect_isolate` of the original's sturm.rs).
 // Nothing here tests the ends or the tolerance; the crate `isolate` stands in front of this and makes the tests once.
+#![tactic(auto)]
+
 ghost use Rattle.std.specs.Prelude.{◌≡◌, true, false, cond, List, [], ◌≤◌, eqb, Float, length, take};
 ghost use Rattle.std.specs.Float.Ieee.{lt};
 ghost use Rattle.chain.specs.Answer.{entries_of};
@@ -15,14 +17,14 @@ use chain::Chain;
 use ratio::{Outcome, Reason};
 
 // Two ends with a root between them, or a root twice.
-#[derive(Drop)]
+#[derive(Clone, Copy)]
 pub struct Bracket {
     pub left: f64,
     pub right: f64,
 }
 
 // The brackets in the order found, or why there are none.
-#[derive(Drop)]
+#[derive(Clone, Copy)]
 pub struct Brackets {
     pub outcome: Outcome,
     pub items: [Bracket; 64],
@@ -30,14 +32,14 @@ pub struct Brackets {
 }
 
 // A place and the sign changes of the chain there.
-#[derive(Drop)]
+#[derive(Clone, Copy)]
 struct End {
     at: f64,
     changes: usize,
 }
 
 // Where a stretch is split: the middle and whether it is a root, the inner ends of both parts, and which of them there are.
-#[derive(Drop)]
+#[derive(Clone, Copy)]
 struct Cut {
     exact: bool,
     mid: f64,

@@ -1,4 +1,6 @@
 // Fractions to floats and back (document 01, module 2; the original's src/poly/mod.rs).
+#![tactic(auto)]
+
 ghost use Rattle.std.specs.Prelude.{◌≡◌, ◌≤◌, false, T, pos};
 ghost use Rattle.std.specs.Float.Ieee as Ieee;
 ghost use Rattle.std.specs.Float.{fin, binary64};
@@ -12,7 +14,7 @@ ghost use Rattle.bridge.specs.Promise.{Floats, Finds};
 use ratio::{Ratio, Reason, Step};
 
 // The float of a fraction.
-#[derive(Drop)]
+#[derive(Clone, Copy)]
 pub enum Rounded {
     Done(f64),
     Refused(Reason),

@@ -1,5 +1,7 @@
 // The engine for programs in other languages. A polynomial comes as a list of numerators and one of denominators, an operation by its number.
 // An answer is written to lent memory, 32 numerators and 32 denominators a polynomial; a refusal writes nothing.
+#![tactic(auto)]
+
 ghost use Rattle.std.specs.Prelude.{◌≡◌};
 ghost use Rattle.poly.specs.declared.Gate.TheVariants.{Open};
 ghost use Rattle.poly.specs.Door.{door_of};

@@ -1,5 +1,7 @@
 // Floats, real roots and expressions for programs in other languages. A polynomial comes as a list of numerators and one of denominators.
 // An answer is written to lent memory; a refusal writes nothing. Where an answer has a length, 16 times it and the status are handed back.
+#![tactic(auto)]
+
 ghost use Rattle.std.specs.Prelude.{◌≡◌, leb};
 ghost use Rattle.ratio.specs.Refusal.{status_of};
 ghost use Rattle.poly.specs.Door.{open_if};

@@ -1,5 +1,7 @@
 // The chain of negated remainders of any list of coefficients (document 01, module 6; the original's sturm.rs).
 // Nothing here tests whether a polynomial is canonical; the crate `sturm` stands in front of this and makes the test once.
+#![tactic(auto)]
+
 ghost use Rattle.std.specs.Prelude.{◌≡◌, [], ◌∷◌, ◌≤◌, ◌<◌, length};
 ghost use Rattle.terms.specs.Poly.{terms_of, poly_of};
 ghost use Rattle.chain.specs.Next.{next_of};
@@ -10,7 +12,7 @@ use ratio::{Outcome, Reason};
 use terms::{Answer, Poly};
 
 // The polynomials of the chain, or why there are none.
-#[derive(Drop)]
+#[derive(Clone, Copy)]
 pub struct Chain {
     pub outcome: Outcome,
     pub polys: [Poly; 32],

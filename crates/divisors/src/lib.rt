@@ -1,5 +1,7 @@
 // The divisors of a whole number in the original's order (`integer_factors` of src/poly/mod.rs; document 01, module 1).
 // A listing is a bit set over 1 to 65,536, so that no list is ever cut; `next_factor` walks it.
+#![tactic(auto)]
+
 ghost use Rattle.std.specs.Prelude.{◌≡◌, ◌+◌, ◌-◌, ◌*◌, ◌/◌, ◌%◌, ◌^◌, ◌<◌, ◌≤◌, false, eqb, ltb};
 ghost use Rattle.ratio.specs.Range.{limit};
 ghost use Rattle.divisors.specs.Listing.{entries, is_small};
@@ -9,20 +11,20 @@ ghost use Rattle.divisors.specs.Walk.{mark_from, Clear, ClearIn, entry_of, first
 
 use ratio::{Outcome, Reason};
 
-#[derive(Drop)]
+#[derive(Clone, Copy)]
 pub struct Listing {
     pub outcome: Outcome,
     pub size: u64,
     pub marks: [u64; 1024],
 }
 
-#[derive(Drop)]
+#[derive(Clone, Copy)]
 pub enum Found {
     At { value: i64, next: usize },
     End,
 }
 
-#[derive(Drop)]
+#[derive(Clone, Copy)]
 enum Entry {
     Is(i64),
     Nothing,

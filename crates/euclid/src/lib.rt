@@ -1,5 +1,7 @@
 // Division, gcd, square-free part, resultant and discriminant at the door (document 01, module 4; the original's univariate.rs):
 // each tests its inputs once and hands the work to the crate `remainders`. The number of rational steps stands in every answer.
+#![tactic(auto)]
+
 ghost use Rattle.std.specs.Prelude.{◌≡◌, ◌≤◌};
 ghost use Rattle.remainders.specs.Price.{division_price, ordered_price, resultant_price};
 ghost use Rattle.euclid.specs.Answer.{div_rem_of, gcd_for, square_free_for, no_whole, whole_from, resultant_for, discriminant_for};
@@ -12,7 +14,7 @@ use remainders::{Division, Number};
 use terms::{Answer, Poly};
 
 // A whole number that was worked out.
-#[derive(Drop)]
+#[derive(Clone, Copy)]
 pub struct Whole {
     pub outcome: Outcome,
     pub value: i64,
@@ -20,7 +22,7 @@ pub struct Whole {
 }
 
 // A price quoted before the work.
-#[derive(Drop)]
+#[derive(Clone, Copy)]
 pub enum Price {
     Steps(u64),
     Refused(Reason),

@@ -1,4 +1,6 @@
 // The square-free decomposition, the factors and their product at the door (document 01, module 5; the original's factor.rs).
+#![tactic(auto)]
+
 ghost use Rattle.std.specs.Prelude.{◌≡◌, List, [], ◌∷◌, length, take};
 ghost use Rattle.terms.specs.Poly.{terms_of, poly_of, trim};
 ghost use Rattle.yun.specs.declared.Piece.{Piece};
@@ -14,7 +16,7 @@ use terms::{Answer, Poly};
 use yun::{Decomposition, Piece};
 
 // The content, and the factors with their multiplicities; or why there are none.
-#[derive(Drop)]
+#[derive(Clone, Copy)]
 pub struct Factorization {
     pub outcome: Outcome,
     pub content: Ratio,

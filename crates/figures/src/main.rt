@@ -1,4 +1,6 @@
 // Document 01's figures that are run: each line says what was asked and what came of it. Those marked P are proved, in specs/Figures.antt.
+#![tactic(auto)]
+
 use divisors::Found;
 use libc::STDOUT_FILENO;
 use ratio::{Outcome, Ratio, Step};

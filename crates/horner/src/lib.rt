@@ -1,4 +1,6 @@
 // Polynomials to expressions (document 01, module 7; `to_lowered` of the original's univariate.rs): Horner form, lowest coefficient outermost, as postfix tokens.
+#![tactic(auto)]
+
 ghost use Rattle.std.specs.Prelude.{◌≡◌, ◌++◌, ◌≤◌, ◌<◌, leb, length, take, drop};
 ghost use Rattle.ratio.specs.Refusal.{outcome_status};
 ghost use Rattle.terms.specs.Poly.{terms_of};
@@ -15,7 +17,7 @@ use ratio::{Outcome, Ratio, Reason};
 use terms::Poly;
 
 // How many bytes were written.
-#[derive(Drop)]
+#[derive(Clone, Copy)]
 pub struct Written {
     pub outcome: Outcome,
     pub len: usize,

@@ -1,4 +1,6 @@
 // Isolation of real roots (document 01, module 6; `isolate_real_roots` of the original's sturm.rs).
+#![tactic(auto)]
+
 ghost use Rattle.std.specs.Prelude.{◌≡◌, [], ◌∷◌, ◌++◌, ◌<◌, length};
 ghost use Rattle.terms.specs.Poly.{terms_of};
 ghost use Rattle.sturm.specs.Value.{floats_of};
@@ -17,7 +19,7 @@ use refine::Root;
 use terms::Poly;
 
 // The roots, rising, or why there are none.
-#[derive(Drop)]
+#[derive(Clone, Copy)]
 pub struct Isolation {
     pub outcome: Outcome,
     pub roots: [f64; 64],
@@ -25,14 +27,14 @@ pub struct Isolation {
 }
 
 // The most that an isolation takes, or why there is no quote.
-#[derive(Drop)]
+#[derive(Clone, Copy)]
 pub enum Quote {
     Most { calls: u64, evaluations: u64 },
     Refused(Reason),
 }
 
 // One place of the walk that makes room: what stays there, what is carried on, and whether the rest moves up.
-#[derive(Drop)]
+#[derive(Clone, Copy)]
 struct Slide {
     moving: bool,
     stays: f64,

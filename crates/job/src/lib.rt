@@ -1,4 +1,6 @@
 // A job in, an answer out (document 01, "the job program"): from the bytes of a job to the bytes of its answer.
+#![tactic(auto)]
+
 ghost use Rattle.std.specs.Prelude.{◌≡◌, ◌≤◌, length};
 ghost use Rattle.job.specs.Job.{refusing, answering, dividing, numbering, valuing, rooting, factoring, counting, isolating, outcome_of, work_for, work_of, reply_to};
 ghost use Rattle.factor.specs.Factors.{factor_for};
@@ -17,7 +19,7 @@ use sturm::Count;
 use terms::{Answer, Poly};
 
 // What came of a job: its outcome, with the place of what is malformed, and how many bytes its answer has.
-#[derive(Drop)]
+#[derive(Clone, Copy)]
 pub struct Ran {
     pub outcome: Outcome,
     pub len: usize,

@@ -1,5 +1,7 @@
 // Kronecker's split: a factor found from its values at a few points (document 01, module 5; `kronecker_try_split` of the original's factor.rs).
 // Nothing here tests whether a polynomial is canonical: every function is total by its own model, on any value.
+#![tactic(auto)]
+
 ghost use Rattle.std.specs.Prelude.{◌≡◌, true, false, ◌&&◌, [], ◌∷◌, ◌++◌, ◌+◌, ◌<◌, ◌≤◌, pos, length, take};
 ghost use Rattle.ratio.specs.Refusal.{ratio_of};
 ghost use Rattle.ratio.specs.Step.{neg_of};
@@ -17,7 +19,7 @@ use ratio::{Outcome, Ratio, Reason, Step};
 use terms::{Answer, Poly};
 
 // What a search for a factor comes to: found, none so far, none at all, or refused.
-#[derive(Drop)]
+#[derive(Clone, Copy)]
 pub enum Verdict {
     Found,
     Next,
@@ -25,14 +27,14 @@ pub enum Verdict {
     Refused(Reason),
 }
 
-#[derive(Drop)]
+#[derive(Clone, Copy)]
 pub struct Split {
     pub verdict: Verdict,
     pub factor: Poly,
 }
 
 // The values at the points in use: whole numbers all, or not, or one was refused.
-#[derive(Drop)]
+#[derive(Clone, Copy)]
 enum Values {
     Whole,
     Broken,
@@ -40,25 +42,25 @@ enum Values {
 }
 
 // A combination: a divisor for each point so far.
-#[derive(Drop)]
+#[derive(Clone, Copy)]
 struct Combination {
     values: [Ratio; 7],
 }
 
-#[derive(Drop)]
+#[derive(Clone, Copy)]
 struct Combinations {
     rows: [Combination; 100],
     len: usize,
 }
 
-#[derive(Drop)]
+#[derive(Clone, Copy)]
 struct Gathered {
     outcome: Outcome,
     combinations: Combinations,
 }
 
 // What the part of a sum at one point is made of, whatever its value is to be: the product for that point, and its own value there.
-#[derive(Drop)]
+#[derive(Clone, Copy)]
 struct Basis {
     fine: bool,
     poly: Poly,
@@ -66,7 +68,7 @@ struct Basis {
 }
 
 // One for each point in use. They are the same for all combinations, so they are made once.
-#[derive(Drop)]
+#[derive(Clone, Copy)]
 struct Parts {
     rows: [Basis; 7],
 }

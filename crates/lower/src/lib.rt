@@ -1,4 +1,6 @@
 // Expressions to polynomials (document 01, module 7; `from_lowered` of the original's univariate.rs): postfix tokens and a stack of 16 polynomials.
+#![tactic(auto)]
+
 ghost use Rattle.std.specs.Prelude.{◌≡◌, [], ◌∷◌};
 ghost use Rattle.terms.specs.Poly.{poly_of, trim};
 ghost use Rattle.terms.specs.Answer.{refused_with};
@@ -17,27 +19,27 @@ use terms::{Answer, Poly};
 use tokens::Token;
 
 // The exponent that a float is.
-#[derive(Drop)]
+#[derive(Clone, Copy)]
 enum Whole {
     Is(usize),
     Nothing,
 }
 
-#[derive(Drop)]
+#[derive(Clone, Copy)]
 enum Binary {
     Add,
     Sub,
     Mul,
 }
 
-#[derive(Drop)]
+#[derive(Clone, Copy)]
 enum Unary {
     Neg,
     Pow(usize),
 }
 
 // What a token asks for: a value of its own, the top value changed, the top two combined, or an end.
-#[derive(Drop)]
+#[derive(Clone, Copy)]
 enum Work {
     Constant(f64),
     Variable(u64),

@@ -1,10 +1,12 @@
 // The operations of a job by their names (document 01, "the job program").
+#![tactic(auto)]
+
 ghost use Rattle.std.specs.Prelude.{◌≡◌};
 ghost use Rattle.text.specs.Page.{laid, after};
 ghost use Rattle.ops.specs.Op.{name_of};
 
 // A job's operation; Unknown is written `?`.
-#[derive(Drop)]
+#[derive(Clone, Copy)]
 pub enum Op {
     Add,
     Sub,

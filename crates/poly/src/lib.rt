@@ -1,5 +1,7 @@
 // Polynomials at the door (document 01, module 3; the original's univariate.rs): every operation takes any value of its types,
 // tests once whether its inputs are canonical, and hands the work to the crate `terms`.
+#![tactic(auto)]
+
 ghost use Rattle.std.specs.Prelude.{◌≡◌, [], ◌∷◌, ◌≤◌, length, drop};
 ghost use Rattle.algebra.specs.Polynomial.{sum, scaled, negated, product, power, derivative, value};
 ghost use Rattle.ratio.specs.Promise.{rat};
@@ -15,21 +17,21 @@ use ratio::{Outcome, Ratio, Reason, Step};
 use terms::{Answer, Poly};
 
 // Whether an input may come in: over 32 coefficients is 4, what isn't canonical is 5.
-#[derive(Drop)]
+#[derive(Clone, Copy)]
 pub enum Gate {
     Open,
     Long,
     Bad,
 }
 
-#[derive(Drop)]
+#[derive(Clone, Copy)]
 pub enum Exponent {
     Zero,
     Is(usize),
     Refused(Reason),
 }
 
-#[derive(Drop)]
+#[derive(Clone, Copy)]
 pub enum Truth {
     Yes,
     No,

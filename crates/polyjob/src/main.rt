@@ -1,4 +1,6 @@
 // polyjob: one job from standard input, its answer to standard output (document 01, "the job program").
+#![tactic(auto)]
+
 use libc::{STDIN_FILENO, STDOUT_FILENO};
 
 fn main() {

@@ -1,5 +1,7 @@
 // Fractions and their checked steps (document 01, module 1; the original's src/poly/mod.rs).
 // Every step takes any pair of numbers: what is no fraction within the range is refused with 5.
+#![tactic(auto)]
+
 ghost use Rattle.std.specs.Prelude.{◌≡◌, not, eqb, ◌+◌, ◌*◌, ◌-◌, ◌/◌, ◌%◌, ◌^◌, ◌<◌, ◌≤◌, min, pos, nat_abs, ◌+ℤ◌, ◌*ℤ◌};
 ghost use Rattle.std.specs.Int.Count.{count_trailing_zeros};
 ghost use Rattle.std.specs.Int.Signed.{lt_z};
@@ -12,7 +14,7 @@ ghost use Rattle.ratio.specs.Step.{is_nil, is_fraction, differ, order_of, is_low
 ghost use Rattle.ratio.specs.Promise.{rat, Fraction, Lowest, AddFits, SubFits, MulFits, InvFits, Answers, Orders, Tells};
 
 // Why something is refused. `specs/Refusal.antt` gives each reason document 01's number.
-#[derive(Drop)]
+#[derive(Clone, Copy)]
 pub enum Reason {
     NotPolynomial,
     CoeffOverflow,
@@ -42,28 +44,28 @@ pub fn number(why: Reason) -> u64
     }
 }
 
-#[derive(Drop)]
+#[derive(Clone, Copy)]
 pub struct Ratio {
     pub num: i64,
     pub den: i64,
 }
 
 // The answer of a rational step.
-#[derive(Drop)]
+#[derive(Clone, Copy)]
 pub enum Step {
     Done(Ratio),
     Refused(Reason),
 }
 
 // The outcome beside an answer that holds an array.
-#[derive(Drop)]
+#[derive(Clone, Copy)]
 pub enum Outcome {
     Done,
     Refused(Reason),
 }
 
 // The answer of a comparison.
-#[derive(Drop)]
+#[derive(Clone, Copy)]
 pub enum Order {
     Less,
     Equal,
@@ -74,13 +76,13 @@ pub enum Order {
 // ---- whole numbers
 
 // A checked whole number.
-#[derive(Drop)]
+#[derive(Clone, Copy)]
 enum Whole {
     Is(i64),
     Over,
 }
 
-#[derive(Drop)]
+#[derive(Clone, Copy)]
 enum Product {
     Is(u64),
     TooLarge,
@@ -471,7 +473,7 @@ pub fn inverse(a: Ratio) -> Step
 // ---- comparison
 
 // A product of two magnitudes, which may take 126 bits: high · 2^64 + low.
-#[derive(Drop)]
+#[derive(Clone, Copy)]
 struct Wide {
     high: u64,
     low: u64,

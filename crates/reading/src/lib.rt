@@ -1,4 +1,6 @@
 // Numbers and polynomials from text (document 01, "the job program"): fractions, coefficients parted by spaces, floats by their bits, a budget.
+#![tactic(auto)]
+
 ghost use Rattle.std.specs.Prelude.{◌≡◌, List, [], ◌∷◌, ◌++◌, ◌≤◌};
 ghost use Rattle.ratio.specs.declared.Ratio.{Ratio};
 ghost use Rattle.reading.specs.Numbers.{whole_of, numerator_of, denominator_of, whole_step, fraction_step, ratio_from, float_from, budget_from};
@@ -11,14 +13,14 @@ use terms::{Answer, Poly};
 use tokens::Number;
 
 // A whole number that is spelled.
-#[derive(Drop)]
+#[derive(Clone, Copy)]
 enum Whole {
     Is(i64),
     Nothing,
 }
 
 // A float that is spelled.
-#[derive(Drop)]
+#[derive(Clone, Copy)]
 pub enum Real {
     Is(f64),
     Nothing,

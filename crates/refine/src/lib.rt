@@ -1,4 +1,6 @@
 // The root in a bracket, refined by halving (document 01, module 6; `bisect_refine` of the original's sturm.rs and the choice in front of it).
+#![tactic(auto)]
+
 ghost use Rattle.std.specs.Prelude.{◌≡◌};
 ghost use Rattle.refine.specs.Refine.{size_of, middle_of, halved_of, refine_of, halvings};
 ghost use Rattle.refine.specs.Root.{crosses_of, near_of, root_of};
@@ -6,7 +8,7 @@ ghost use Rattle.refine.specs.Root.{crosses_of, near_of, root_of};
 use bisect::Bracket;
 
 // Two ends and the value at the left one.
-#[derive(Drop)]
+#[derive(Clone, Copy)]
 struct Side {
     left: f64,
     right: f64,
@@ -14,7 +16,7 @@ struct Side {
 }
 
 // A root, where a bracket has one.
-#[derive(Drop)]
+#[derive(Clone, Copy)]
 pub enum Root {
     At(f64),
     Nothing,

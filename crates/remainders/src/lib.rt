@@ -1,6 +1,8 @@
 // Division, gcd, resultant, discriminant and the square-free part of any lists of coefficients (document 01, module 4; the original's univariate.rs).
 // Nothing here tests whether a polynomial is canonical; the crate `euclid` stands in front of this and makes the test once.
 // Every answer, a refused one too, carries the number of rational steps that were made.
+#![tactic(auto)]
+
 ghost use Rattle.std.specs.Prelude.{◌≡◌, ◌+◌, ◌*◌, ◌-◌, ◌≤◌, ◌<◌, pos, length};
 ghost use Rattle.ratio.specs.Refusal.{ratio_of, zero_r};
 ghost use Rattle.ratio.specs.Step.{inv_of};
@@ -16,7 +18,7 @@ use ratio::{Outcome, Ratio, Reason, Step};
 use terms::{Answer, Poly};
 
 // Quotient and rest.
-#[derive(Drop)]
+#[derive(Clone, Copy)]
 pub struct Division {
     pub outcome: Outcome,
     pub quotient: Poly,
@@ -25,7 +27,7 @@ pub struct Division {
 }
 
 // A fraction that was worked out.
-#[derive(Drop)]
+#[derive(Clone, Copy)]
 pub struct Number {
     pub outcome: Outcome,
     pub value: Ratio,

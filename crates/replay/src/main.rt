@@ -2,6 +2,8 @@
 // `oracle/answers` writes the lines, from the seed that stands there. A line has, parted by one space each: the operation, n,
 // the four lists of a and b, the status, the steps, the four lists of the answer. A list is its length, then its entries.
 // From operation 32 on real.rt says what a line has.
+#![tactic(auto)]
+
 use libc::STDOUT_FILENO;
 
 mod real;
@@ -9,32 +11,32 @@ mod real;
 ghost use Rattle.std.specs.Prelude.{◌≡◌, ◌≤◌, length};
 
 // A number that was read, and the place behind it.
-#[derive(Drop)]
+#[derive(Clone, Copy)]
 struct Size {
     value: u64,
     at: usize,
 }
 
-#[derive(Drop)]
+#[derive(Clone, Copy)]
 struct Signed {
     value: i64,
     at: usize,
 }
 
-#[derive(Drop)]
+#[derive(Clone, Copy)]
 struct Items {
     items: [i64; 40],
     len: usize,
     at: usize,
 }
 
-#[derive(Drop)]
+#[derive(Clone, Copy)]
 struct Tally {
     count: u64,
     differ: u64,
 }
 
-#[derive(Drop)]
+#[derive(Clone, Copy)]
 struct Replayed {
     same: bool,
     at: usize,

@@ -3,7 +3,7 @@ ghost use Rattle.std.specs.Prelude.{◌≤◌};
 
 use crate::{Replayed, entries, holds, natural, whole};
 
-#[derive(Drop)]
+#[derive(Clone, Copy)]
 struct Number {
     value: f64,
     at: usize,

@@ -1,4 +1,6 @@
 // The text of an answer (document 01, "the job program"): five lines, laid on a lent page.
+#![tactic(auto)]
+
 ghost use Rattle.std.specs.Prelude.{◌≡◌, ℕ, take};
 ghost use Rattle.terms.specs.declared.Poly.{Poly};
 ghost use Rattle.factor.specs.Factors.{factor_for};

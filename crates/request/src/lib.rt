@@ -1,4 +1,6 @@
 // A job read from its text (document 01, "the job program"): key=value lines in one order. The first thing that is bad, from left to right, is 5 with its place; then a list of over 32 is 4.
+#![tactic(auto)]
+
 ghost use Rattle.std.specs.Prelude.{◌≡◌, ◌+◌, ◌≤◌, length, drop};
 ghost use Rattle.request.specs.Ops.{begins, is_name, op_with_numbers, op_of_one, op_of, is_known, wants_of};
 ghost use Rattle.request.specs.Lines.{stopped_at, standing_at, opened_at, closed_at, no_poly, poly_line_of, no_ratio, ratio_line_of, no_budget, budget_line_of, is_limited, limited_of, no_float, float_line_of};
@@ -19,7 +21,7 @@ const DEFAULT_BUDGET: u64 = 65536;
 const LONGEST: usize = 4096;
 
 // A job, or why there is none: then the rest is zero, but for the operation as far as it is known.
-#[derive(Drop)]
+#[derive(Clone, Copy)]
 pub struct Request {
     pub op: Op,
     pub outcome: Outcome,
@@ -33,7 +35,7 @@ pub struct Request {
 }
 
 // Where reading stands, or where something is bad; and whether a list was too long.
-#[derive(Drop)]
+#[derive(Clone, Copy)]
 struct Cursor {
     at: usize,
     bad: bool,
@@ -41,37 +43,37 @@ struct Cursor {
 }
 
 // What a line holds, and where reading stands behind it.
-#[derive(Drop)]
+#[derive(Clone, Copy)]
 struct OpLine {
     op: Op,
     cursor: Cursor,
 }
 
-#[derive(Drop)]
+#[derive(Clone, Copy)]
 struct PolyLine {
     cursor: Cursor,
     poly: Poly,
 }
 
-#[derive(Drop)]
+#[derive(Clone, Copy)]
 struct RatioLine {
     cursor: Cursor,
     ratio: Ratio,
 }
 
-#[derive(Drop)]
+#[derive(Clone, Copy)]
 struct BudgetLine {
     cursor: Cursor,
     budget: u64,
 }
 
-#[derive(Drop)]
+#[derive(Clone, Copy)]
 struct FloatLine {
     cursor: Cursor,
     float: f64,
 }
 
-#[derive(Drop)]
+#[derive(Clone, Copy)]
 struct Interval {
     cursor: Cursor,
     lo: f64,
@@ -80,7 +82,7 @@ struct Interval {
 }
 
 // The keys that an operation has after a.
-#[derive(Drop)]
+#[derive(Clone, Copy)]
 struct Wants {
     b: bool,
     x: bool,

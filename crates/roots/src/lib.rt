@@ -1,4 +1,6 @@
 // Rational roots, content and primitive part at the door (document 01, module 5; the original's univariate.rs).
+#![tactic(auto)]
+
 ghost use Rattle.std.specs.Prelude.{◌≡◌};
 ghost use Rattle.ratio.specs.Step.{inv_of};
 ghost use Rattle.terms.specs.Poly.{terms_of};
@@ -42,7 +44,7 @@ pub fn rational_roots(p: Poly, budget: u64) -> Roots
 }
 
 // The most that a search takes, or why there is no quote.
-#[derive(Drop)]
+#[derive(Clone, Copy)]
 pub enum Quote {
     Most {
         trials: u64,

@@ -1,4 +1,6 @@
 // The examples, run: each pair of arguments is a file with a job and a file with the answer it must get.
+#![tactic(auto)]
+
 ghost use Rattle.std.specs.Prelude.{◌≤◌};
 ghost use Rattle.io.specs.Counts.{IsPrefixLen};
 
@@ -35,7 +37,7 @@ fn one_unless(same: bool) -> u64
     if same { 0 } else { 1 }
 }
 
-#[derive(Drop)]
+#[derive(Clone, Copy)]
 struct Tally {
     jobs: u64,
     differ: u64,

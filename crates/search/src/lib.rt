@@ -1,5 +1,7 @@
 // The search for rational roots, total on any value (document 01, module 5; `rational_roots` of the original's univariate.rs).
 // The crate `roots` stands in front of this and makes the test at the door.
+#![tactic(auto)]
+
 ghost use Rattle.std.specs.Prelude.{◌≡◌, ◌+◌, ◌/◌, ◌<◌, ◌≤◌, ltb, pos, nat_abs, length, drop, get_or};
 ghost use Rattle.ratio.specs.Range.{Within};
 ghost use Rattle.ratio.specs.Refusal.{zero_r};
@@ -20,7 +22,7 @@ use ratio::{Order, Outcome, Ratio, Reason, Step};
 use terms::Poly;
 
 // The roots found, rising; how many candidates were tried, and the rational steps that took.
-#[derive(Drop)]
+#[derive(Clone, Copy)]
 pub struct Roots {
     pub outcome: Outcome,
     pub values: [Ratio; 32],
@@ -85,7 +87,7 @@ fn clear_one(m: Ratio, c: Ratio) -> Step
 }
 
 // The coefficients as whole numbers, where they fit.
-#[derive(Drop)]
+#[derive(Clone, Copy)]
 struct Cleared {
     fine: bool,
     poly: Poly,
@@ -154,7 +156,7 @@ fn strip(p: Poly, k: usize) -> Poly
 // ---- a rising list
 
 // Two fractions, the smaller first; or one that stands there already.
-#[derive(Drop)]
+#[derive(Clone, Copy)]
 enum Pair {
     Both { low: Ratio, high: Ratio },
     Repeat,
@@ -172,7 +174,7 @@ fn turn(x: Ratio, a: Ratio) -> Pair
 }
 
 // The roots found so far, and what was counted.
-#[derive(Drop)]
+#[derive(Clone, Copy)]
 struct Tally {
     fine: bool,
     values: [Ratio; 32],
@@ -221,7 +223,7 @@ fn insert(t: Tally, x: Ratio) -> Tally
 // ---- candidates
 
 // A value and the steps that led to it.
-#[derive(Drop)]
+#[derive(Clone, Copy)]
 struct Valued {
     fine: bool,
     value: Ratio,

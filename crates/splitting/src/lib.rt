@@ -1,5 +1,7 @@
 // Splitting by rational roots and by Kronecker's method, total on any value (document 01, module 5; `split_into_irreducibles` of the original's factor.rs).
 // Nothing here tests whether a polynomial is canonical; the crate `factor` stands in front of this and makes the test once.
+#![tactic(auto)]
+
 ghost use Rattle.std.specs.Prelude.{◌≡◌, false, List, [], length, take};
 ghost use Rattle.ratio.specs.declared.Ratio.{Ratio};
 ghost use Rattle.terms.specs.Poly.{terms_of};
@@ -16,14 +18,14 @@ use terms::{Answer, Poly};
 use yun::{Decomposition, Piece};
 
 // What was found so far, and what is left to split; a refusal stands in `found`.
-#[derive(Drop)]
+#[derive(Clone, Copy)]
 struct Left {
     found: Decomposition,
     rest: Poly,
 }
 
 // Two factors, where there are two.
-#[derive(Drop)]
+#[derive(Clone, Copy)]
 struct Pair {
     outcome: Outcome,
     two: bool,

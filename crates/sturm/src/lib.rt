@@ -1,4 +1,6 @@
 // Values of a polynomial in floats, sign changes of the chain and the count of real roots (document 01, module 6; the original's sturm.rs).
+#![tactic(auto)]
+
 ghost use Rattle.std.specs.Prelude.{◌≡◌, List, ◌+◌, ◌-◌, ◌≤◌, Float, length, take, drop};
 ghost use Rattle.std.proofs.Math.Seq.{paste};
 ghost use Rattle.terms.specs.declared.Poly.{Poly};
@@ -18,7 +20,7 @@ use ratio::{Outcome, Reason};
 use terms::Poly;
 
 // The sign of a float; a NaN has none of the others.
-#[derive(Drop)]
+#[derive(Clone, Copy)]
 pub enum Sign {
     Zero,
     Plus,
@@ -27,14 +29,14 @@ pub enum Sign {
 }
 
 // A polynomial's coefficients as floats.
-#[derive(Drop)]
+#[derive(Clone, Copy)]
 pub struct Row {
     pub values: [f64; 32],
     pub len: usize,
 }
 
 // The rows of a chain, one behind the other, and how long each of them is.
-#[derive(Drop)]
+#[derive(Clone, Copy)]
 pub struct Rows {
     pub values: [f64; 1024],
     pub sizes: [usize; 32],
@@ -42,7 +44,7 @@ pub struct Rows {
 }
 
 // How many roots were counted, or why there is no number.
-#[derive(Drop)]
+#[derive(Clone, Copy)]
 pub struct Count {
     pub outcome: Outcome,
     pub count: usize,

@@ -1,6 +1,8 @@
 // Polynomials in one variable over fractions, and the plain work on them (document 01, module 3; the original's univariate.rs).
 // Nothing here tests whether a polynomial is canonical: every function is total by its own model, on any value.
 // The crate `poly` stands in front of this and makes the test once.
+#![tactic(auto)]
+
 ghost use Rattle.std.specs.Prelude.{◌≡◌, List, [], ℕ, ◌+◌, ◌-◌, ◌<◌, ◌≤◌, max, ℤ, pos, length, take};
 ghost use Rattle.ratio.specs.Refusal.{zero_r};
 ghost use Rattle.ratio.specs.declared.Ratio.{Ratio};
@@ -12,14 +14,14 @@ ghost use Rattle.terms.specs.Answer.{done_with, refused_with, answer_of, op_if, 
 
 use ratio::{Outcome, Ratio, Reason, Step};
 
-#[derive(Drop)]
+#[derive(Clone, Copy)]
 pub struct Poly {
     pub coeffs: [Ratio; 32],
     pub len: usize,
 }
 
 // A polynomial, or why there is none, with the steps that were made.
-#[derive(Drop)]
+#[derive(Clone, Copy)]
 pub struct Answer {
     pub outcome: Outcome,
     pub poly: Poly,
@@ -361,7 +363,7 @@ fn combine(subtract: bool, x: Ratio, y: Ratio) -> Step
 }
 
 // The coefficients of a product under way.
-#[derive(Drop)]
+#[derive(Clone, Copy)]
 pub struct Row {
     pub fine: bool,
     pub acc: [Ratio; 32],

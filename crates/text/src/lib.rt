@@ -1,4 +1,6 @@
 // Numbers as text, laid on a lent page (document 01, "the job program"). What has no room on the page is left out; a caller sees that by the place.
+#![tactic(auto)]
+
 ghost use Rattle.std.specs.Prelude.{◌≡◌, [], ◌∷◌, ◌<◌, take};
 ghost use Rattle.terms.specs.Poly.{terms_of};
 ghost use Rattle.text.specs.Page.{laid, after};

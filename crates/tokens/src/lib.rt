@@ -1,4 +1,6 @@
 // Expressions as postfix tokens (document 01, module 7): how a token is spelled, and whether a text is an expression at all.
+#![tactic(auto)]
+
 ghost use Rattle.std.specs.Prelude.{◌≡◌, ◌+◌, ◌^◌, ◌≤◌, ◌<◌, length, drop};
 ghost use Rattle.std.specs.Float.{binary64};
 ghost use Rattle.std.specs.Float.Ieee.{of_bits};
@@ -9,7 +11,7 @@ ghost use Rattle.tokens.specs.Heights.{takes as takes_of, is_other, is_malformed
 use ratio::{Outcome, Reason};
 
 // One token. Constants and exponents are floats, given by their bits.
-#[derive(Drop)]
+#[derive(Clone, Copy)]
 pub enum Token {
     Const(f64),
     Var(u64),
@@ -23,14 +25,14 @@ pub enum Token {
 }
 
 // A number that is spelled by digits.
-#[derive(Drop)]
+#[derive(Clone, Copy)]
 pub enum Number {
     Is(u64),
     Nothing,
 }
 
 // How many values stand on the stack, whether over 16 ever did, and whether a `?` was passed.
-#[derive(Drop)]
+#[derive(Clone, Copy)]
 pub struct Height {
     pub values: usize,
     pub deep: bool,

@@ -1,5 +1,7 @@
 // Yun's square-free decomposition of any list of coefficients (document 01, module 5; the original's factor.rs).
 // Nothing here tests whether a polynomial is canonical; the crate `factor` stands in front of this and makes the test once.
+#![tactic(auto)]
+
 ghost use Rattle.std.specs.Prelude.{◌≡◌, true, false, [], length};
 ghost use Rattle.ratio.specs.declared.Outcome.TheVariants as O;
 ghost use Rattle.terms.specs.Poly.{terms_of, poly_of};
@@ -12,14 +14,14 @@ use ratio::{Outcome, Reason};
 use terms::{Answer, Poly};
 
 // A factor and how often it occurs.
-#[derive(Drop)]
+#[derive(Clone, Copy)]
 pub struct Piece {
     pub poly: Poly,
     pub times: u64,
 }
 
 // The factors, or why there are none.
-#[derive(Drop)]
+#[derive(Clone, Copy)]
 pub struct Decomposition {
     pub outcome: Outcome,
     pub pieces: [Piece; 32],
@@ -28,7 +30,7 @@ pub struct Decomposition {
 
 // What a round of the loop comes to: a refusal, or that the polynomial stays whole, or the factor found (zero where none is),
 // with b and c for the next round if there is more to do. The list of factors stays in the loop, so that no round copies it.
-#[derive(Drop)]
+#[derive(Clone, Copy)]
 struct Round {
     outcome: Outcome,
     whole: bool,
