@@ -8,38 +8,38 @@ use borrow.Author.Rules.{rules}
 use Rattle.ratio.proofs.apart.Statement.{statement}
 use Rattle.ratio.proofs.apart.Tie as tie
 
-is-nothing-requires : tie.Need-is-nothing-requires
+is-nothing-requires : tie.Need-is_nothing-requires
 is-nothing-requires c κs = search rules
 
-is-nothing-requires-2 : tie.Need-is-nothing-requires-2
+is-nothing-requires-2 : tie.Need-is_nothing-requires-then-is_nothing
 is-nothing-requires-2 c κs = search rules
 
-returns : tie.Need-returns
+returns : tie.Need-returns-then-is_nothing-2
 returns c =
-    let t = c.before.before in
-    let s = t.before.before in
+    let t = c in
+    let s = t in
     apart-nil s.args.below (wide s.args.x) (wide s.args.y)
-    (eqb-true _ 0 (sym t.before.is-nothing.ensures ∙ t.if1.true))
-    (eqb-true _ 0 (sym c.before.is-nothing2.ensures ∙ c.if2.true))
+    (eqb-true _ 0 (sym t.is_nothing.ensures ∙ t.if-is_nothing.true))
+    (eqb-true _ 0 (sym c.is_nothing-then-is_nothing.ensures ∙ c.if-is_nothing-2.true))
 
 -- where the arms meet, one of the two is some
-one-some : (c : tie.Joined1) → (wide c.before.before.args.x ≡ 0 → ⊥) ⊎ (wide c.before.before.args.y ≡ 0 → ⊥)
+one-some : (c : tie.Joined-is_nothing) → (wide c.args.x ≡ 0 → ⊥) ⊎ (wide c.args.y ≡ 0 → ⊥)
 one-some c =
     ⊎_elim
-    (λ w. inr (eqb-false (wide c.before.before.args.y) 0 (sym w.1.ensures ∙ w.2.left)))
-    (λ w. inl (eqb-false (wide c.before.before.args.x) 0 (sym c.before.is-nothing.ensures ∙ w.left)))
-    c.if1.branch
+    (λ w. inr (eqb-false (wide c.args.y) 0 (sym w.is_nothing-then-is_nothing.ensures ∙ w.if-is_nothing-2.false)))
+    (λ w. inl (eqb-false (wide c.args.x) 0 (sym c.is_nothing.ensures ∙ w.if-is_nothing.false)))
+    c.if-is_nothing.branch-raw
 
-returns-2 : tie.Need-returns-2
+returns-2 : tie.Need-returns-then-below
 returns-2 c =
-    let s = c.before.before.before in
-    rw c.if3.true (apart-less (wide s.args.x) (wide s.args.y) (one-some c.before))
+    let s = c in
+    rw c.if-below.true (apart-less (wide s.args.x) (wide s.args.y) (one-some c.before))
 
-returns-3 : tie.Need-returns-3
+returns-3 : tie.Need-returns-else-below
 returns-3 c =
-    let s = c.before.before.before in
-    rw c.if3.false (apart_more (wide s.args.x) (wide s.args.y) (one-some c.before))
+    let s = c in
+    rw c.if-below.false (apart_more (wide s.args.x) (wide s.args.y) (one-some c.before))
 
-pub apart-spec : {M : Type 1} → statement M
-apart-spec =
+pub apart_spec : {M : Type 1} → statement M
+apart_spec =
     tie.close (tie.spec is-nothing-requires is-nothing-requires-2 returns returns-2 returns-3)

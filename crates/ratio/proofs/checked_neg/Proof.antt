@@ -12,34 +12,34 @@ use borrow.Author.Rules.{rules}
 use Rattle.ratio.proofs.checked_neg.Statement.{statement}
 use Rattle.ratio.proofs.checked_neg.Tie as tie
 
-is-fraction-requires : tie.Need-is-fraction-requires
+is-fraction-requires : tie.Need-is_fraction-requires
 is-fraction-requires c κs = search rules
 
-fa : (c : tie.Then1) → is_fraction c.before.before.args.a ≡ true
-fa c = sym c.before.is-fraction.ensures ∙ c.if1.true
+fa : (c : tie.Then-is_fraction) → is_fraction c.args.a ≡ true
+fa c = sym c.is_fraction.ensures ∙ c.if-is_fraction.true
 
-is-a : (c : tie.Then1) → Fraction c.before.before.args.a
+is-a : (c : tie.Then-is_fraction) → Fraction c.args.a
 is-a c = fraction-of _ (fa c)
 
-sub-reduce : tie.Need-overflow-sub-reduce
-sub-reduce c = neg-fits c.before.before.before.args.a.num (is-a c.before).num-within
+sub-reduce : tie.Need-overflow_sub-n
+sub-reduce c = neg-fits c.args.a.num (is-a c.before).num-within
 
 reduce-requires : tie.Need-reduce-requires
 reduce-requires c κs =
     let f = is-a c.before.before in
-    let a = c.before.before.before.before.args.a in
+    let a = c.args.a in
     rw (neg-back a.num f.num-within, back a.den f.den-within) (neg-fraction a f)
 
-returns : tie.Need-returns
+returns : tie.Need-returns-then-is_fraction
 returns c =
-    let t = c.before.before.before in
-    let f = is-a t in
-    let a = t.before.before.args.a in
-    neg-both a _ (ap Done (c.reduce.ensures ∙ ap₂ lowest (neg-back a.num f.num-within) (back a.den f.den-within)) ∙ neg-yes a (fa t))
+    let t = c in
+    let f = is-a t.before.before.before in
+    let a = t.args.a in
+    neg-both a _ (ap Done (c.reduce.ensures ∙ ap₂ lowest (neg-back a.num f.num-within) (back a.den f.den-within)) ∙ neg-yes a (fa t.before.before.before))
 
-returns-2 : tie.Need-returns-2
-returns-2 c = neg-both c.before.before.args.a _ (neg-no _ (sym c.before.is-fraction.ensures ∙ c.if1.false))
+returns-2 : tie.Need-returns-else-is_fraction
+returns-2 c = neg-both c.args.a _ (neg-no _ (sym c.is_fraction.ensures ∙ c.if-is_fraction.false))
 
-pub checked-neg-spec : {M : Type 1} → statement M
-checked-neg-spec =
+pub checked_neg_spec : {M : Type 1} → statement M
+checked_neg_spec =
     tie.close (tie.spec is-fraction-requires sub-reduce reduce-requires returns returns-2)

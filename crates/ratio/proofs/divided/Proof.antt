@@ -18,12 +18,12 @@ use Rattle.ratio.proofs.divided.Tie as tie
 faced-requires : tie.Need-faced-requires
 faced-requires c κs = search rules
 
-returns : tie.Need-returns
+returns : tie.Need-returns-then-divisor-eq1
 returns c =
-    let s = c.before.before in
+    let s = c in
     let n = s.args.n in
     let d = s.args.d in
-    c.faced.ensures ∙ ap₂ faces (back n s.requires.0.num-within) (back d s.requires.0.den-within) ∙ one-faces n d (sym c.before.if1.true ∙ s.requires.1)
+    c.faced.ensures ∙ ap₂ faces (back n s.requires.0.num-within) (back d s.requires.0.den-within) ∙ one-faces n d (sym c.if-divisor-eq1.true ∙ s.requires.1)
 
 -- the two quotients
 abbrev num_of : tie.Start → ℤ
@@ -62,13 +62,13 @@ parts s =
       den-within = quot-within d g p.den-within;
     }
 
-cast-g : tie.Need-overflow-cast-g
-cast-g c = fits (pos c.before.args.divisor) (parts c.before).most
+cast-g : tie.Need-overflow_cast-g
+cast-g c = fits (pos c.args.divisor) (parts c.before).most
 
-div-faced : tie.Need-nonzero-div-faced
+div-faced : tie.Need-nonzero_div-n
 div-faced c = let q = parts c.before in (q.above, subst (SFits w64) (sym q.num) (fits (num_of c.before) q.num-within))
 
-div-faced-2 : tie.Need-nonzero-div-faced-2
+div-faced-2 : tie.Need-nonzero_div-d
 div-faced-2 c = let q = parts c.before in (q.above, subst (SFits w64) (sym q.den) (fits (den-of c.before) q.den-within))
 
 -- the quotients, handed over
@@ -80,14 +80,14 @@ den-read s = let q = parts s in ap (λ z. to_z w64 (of_z w64 z)) q.den ∙ back 
 
 faced-requires-2 : tie.Need-faced-requires-2
 faced-requires-2 c κs =
-    let s = c.before in
-    let q = parts s in
-    (subst Within (sym (num-read s)) q.num-within, subst Within (sym (den-read s)) q.den-within)
+    let s = c in
+    let q = parts s.before in
+    (subst Within (sym (num-read s.before)) q.num-within, subst Within (sym (den-read s.before)) q.den-within)
 
-returns-2 : tie.Need-returns-2
+returns-2 : tie.Need-returns
 returns-2 c =
-    let s = c.before.before in
-    c.faced2.ensures ∙ ap₂ faces (num-read s) (den-read s) ∙ quot-faces s.args.n s.args.d s.args.divisor (parts s).some s.requires.1
+    let s = c in
+    c.faced-2.ensures ∙ ap₂ faces (num-read s.before.before) (den-read s.before.before) ∙ quot-faces s.args.n s.args.d s.args.divisor (parts s.before.before).some s.requires.1
 
-pub divided-spec : {M : Type 1} → statement M
-divided-spec = tie.close (tie.spec faced-requires returns cast-g div-faced div-faced-2 faced-requires-2 returns-2)
+pub divided_spec : {M : Type 1} → statement M
+divided_spec = tie.close (tie.spec faced-requires returns cast-g div-faced div-faced-2 faced-requires-2 returns-2)

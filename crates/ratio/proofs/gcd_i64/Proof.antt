@@ -20,10 +20,10 @@ gcd-requires c κs = search rules
 
 returns : tie.Need-returns
 returns c =
-    let s = c.before.before.before in
+    let s = c in
     let e : c.gcd.result ≡ gcd_of (nat_abs s.args.a) (nat_abs s.args.b) =
-    c.gcd.ensures ∙ ap₂ gcd_of (c.before.before.magnitude.ensures ∙ ap nat_abs (to_z-of_z s.ranges.a)) (c.before.magnitude2.ensures ∙ ap nat_abs (to_z-of_z s.ranges.b)) in
+    c.gcd.ensures ∙ ap₂ gcd_of (c.magnitude.ensures ∙ ap nat_abs (to_z-of_z s.ranges.a)) (c.magnitude-2.ensures ∙ ap nat_abs (to_z-of_z s.ranges.b)) in
     (e, subst (λ (g : ℕ). IsGcd (nat_abs s.args.a) (nat_abs s.args.b) g) (sym e) (is-gcd (nat_abs s.args.a) (nat_abs s.args.b)))
 
-pub gcd-i64-spec : {M : Type 1} → statement M
-gcd-i64-spec = tie.close (tie.spec magnitude-requires magnitude-requires-2 gcd-requires returns)
+pub gcd_i64_spec : {M : Type 1} → statement M
+gcd_i64_spec = tie.close (tie.spec magnitude-requires magnitude-requires-2 gcd-requires returns)

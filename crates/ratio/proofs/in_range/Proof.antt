@@ -6,5 +6,5 @@ use Rattle.ratio.proofs.in_range.Tie as tie
 returns : tie.Need-returns
 returns c = range-test c.args.x c.ranges.x
 
-pub in-range-spec : {M : Type 1} → statement M
-in-range-spec = tie.close (tie.spec returns)
+pub in_range_spec : {M : Type 1} → statement M
+in_range_spec = tie.close (tie.spec returns)

@@ -13,46 +13,46 @@ use borrow.Author.Rules.{rules}
 use Rattle.ratio.proofs.inverse.Statement.{statement}
 use Rattle.ratio.proofs.inverse.Tie as tie
 
-is-fraction-requires : tie.Need-is-fraction-requires
+is-fraction-requires : tie.Need-is_fraction-requires
 is-fraction-requires c κs = search rules
 
-returns : tie.Need-returns
-returns c = inv-both c.before.before.args.a _ (inv-no _ (sym c.before.is-fraction.ensures ∙ not-true _ c.if1.true))
+returns : tie.Need-returns-then-not-is_fraction
+returns c = inv-both c.args.a _ (inv-no _ (sym c.is_fraction.ensures ∙ not-true _ c.if-not-is_fraction.true-raw))
 
-fa : (c : tie.Else1) → is_fraction c.before.before.args.a ≡ true
-fa c = sym c.before.is-fraction.ensures ∙ not-false _ c.if1.false
+fa : (c : tie.Else-not-is_fraction) → is_fraction c.args.a ≡ true
+fa c = sym c.is_fraction.ensures ∙ not-false _ c.if-not-is_fraction.false-raw
 
-is-a : (c : tie.Else1) → Fraction c.before.before.args.a
+is-a : (c : tie.Else-not-is_fraction) → Fraction c.args.a
 is-a c = fraction-of _ (fa c)
 
-some : (c : tie.Else2) → is_nil c.before.before.before.before.before.args.a.num ≡ false
+some : (c : tie.Else-a-eq0) → is_nil c.args.a.num ≡ false
 some c =
-    let e = c.before.before.before in
-    let a = e.before.before.args.a in
-    some_bits a.num (fits a.num (is-a e).num-within) c.if2.false
+    let e = c in
+    let a = e.args.a in
+    some_bits a.num (fits a.num (is-a e.before.before.before).num-within) c.if-a-eq0.false
 
-returns-2 : tie.Need-returns-2
+returns-2 : tie.Need-returns-then-a-eq0
 returns-2 c =
-    let e = c.before.before.before in
-    let a = e.before.before.args.a in
-    inv-both a _ (inv-nil a (fa e) (nil-bits a.num (fits a.num (is-a e).num-within) c.if2.true))
+    let e = c in
+    let a = e.args.a in
+    inv-both a _ (inv-nil a (fa e.before.before.before) (nil-bits a.num (fits a.num (is-a e.before.before.before).num-within) c.if-a-eq0.true))
 
 reduce-requires : tie.Need-reduce-requires
 reduce-requires c κs =
-    let i = c.before.before in
-    let e = i.before.before.before in
-    let f = is-a e in
-    let a = e.before.before.args.a in
-    rw (back a.num f.num-within, back a.den f.den-within) (inv-fraction a f (some i))
+    let i = c in
+    let e = i in
+    let f = is-a e.before.before.before.before.before in
+    let a = e.args.a in
+    rw (back a.num f.num-within, back a.den f.den-within) (inv-fraction a f (some i.before.before))
 
-returns-3 : tie.Need-returns-3
+returns-3 : tie.Need-returns
 returns-3 c =
-    let i = c.before.before.before in
-    let e = i.before.before.before in
-    let f = is-a e in
-    let a = e.before.before.args.a in
-    inv-both a _ (ap Done (c.reduce.ensures ∙ ap₂ lowest (back a.den f.den-within) (back a.num f.num-within)) ∙ inv-yes a (fa e) (some i))
+    let i = c in
+    let e = i in
+    let f = is-a e.before.before.before.before.before.before in
+    let a = e.args.a in
+    inv-both a _ (ap Done (c.reduce.ensures ∙ ap₂ lowest (back a.den f.den-within) (back a.num f.num-within)) ∙ inv-yes a (fa e.before.before.before.before.before.before) (some i.before.before.before))
 
-pub inverse-spec : {M : Type 1} → statement M
-inverse-spec =
+pub inverse_spec : {M : Type 1} → statement M
+inverse_spec =
     tie.close (tie.spec is-fraction-requires returns returns-2 reduce-requires returns-3)

@@ -8,11 +8,11 @@ use Rattle.ratio.proofs.Quotient.{over, one-bits, whole-lowest}
 use Rattle.ratio.proofs.reduce.Statement.{statement}
 use Rattle.ratio.proofs.reduce.Tie as tie
 
-returns : tie.Need-returns
+returns : tie.Need-returns-then-d-eq1
 returns c =
-    let s = c.before in
+    let s = c in
     ap₂ over (back s.args.n s.requires.num-within) (back s.args.d s.requires.den-within)
-    ∙ whole-lowest s.args.n s.args.d (one-bits s.args.d s.ranges.d c.if1.true)
+    ∙ whole-lowest s.args.n s.args.d (one-bits s.args.d s.ranges.d c.if-d-eq1.true)
 
 magnitude-requires : tie.Need-magnitude-requires
 magnitude-requires c κs = tt
@@ -29,17 +29,17 @@ start m = m.before.before.before.before
 divisor : (m : tie.After-gcd) → m.gcd.result ≡ gcd_of (nat_abs (start m).args.n) (nat_abs (start m).args.d)
 divisor m =
     let s = start m in
-    m.gcd.ensures ∙ ap₂ gcd_of (copied-size s.args.n _ s.fits.n m.before.before.magnitude.ensures) (copied-size s.args.d _ s.fits.d m.before.magnitude2.ensures)
+    m.gcd.ensures ∙ ap₂ gcd_of (copied-size s.args.n _ s.ranges.n m.magnitude.ensures) (copied-size s.args.d _ s.ranges.d m.magnitude-2.ensures)
 
 divided-requires : tie.Need-divided-requires
 divided-requires c κs =
     let s = start c in
-    rw (back s.args.n s.pre.num-within, back s.args.d s.pre.den-within) (s.pre, divisor c)
+    rw (back s.args.n s.requires.num-within, back s.args.d s.requires.den-within) (s.requires, divisor c)
 
-returns-2 : tie.Need-returns-2
+returns-2 : tie.Need-returns
 returns-2 c =
     let s = start c.before in
-    c.divided.ensures ∙ ap₂ lowest (back s.args.n s.pre.num-within) (back s.args.d s.pre.den-within)
+    c.divided.ensures ∙ ap₂ lowest (back s.args.n s.requires.num-within) (back s.args.d s.requires.den-within)
 
-pub reduce-spec : {M : Type 1} → statement M
-reduce-spec = tie.close (tie.spec returns magnitude-requires magnitude-requires-2 gcd-requires divided-requires returns-2)
+pub reduce_spec : {M : Type 1} → statement M
+reduce_spec = tie.close (tie.spec returns magnitude-requires magnitude-requires-2 gcd-requires divided-requires returns-2)

@@ -4,17 +4,17 @@ use Rattle.ratio.proofs.Words.{size_back, size-neg-fits, size-neg-back}
 use Rattle.ratio.proofs.signed.Statement.{statement}
 use Rattle.ratio.proofs.signed.Tie as tie
 
-cast-y : tie.Need-overflow-cast-y
+cast-y : tie.Need-overflow_cast-y
 cast-y c = search rules
 
-sub-result : tie.Need-overflow-sub-result
-sub-result c = size-neg-fits c.before.args.m c.before.requires
+sub-result : tie.Need-overflow_sub-result
+sub-result c = size-neg-fits c.args.m c.requires
 
-returns : tie.Need-returns
-returns c = rw c.if1.true (size-neg-back c.before.args.m c.before.requires)
+returns : tie.Need-returns-then-neg
+returns c = rw c.if-neg.true (size-neg-back c.args.m c.requires)
 
-returns-2 : tie.Need-returns-2
-returns-2 c = rw c.if1.false (size_back c.before.args.m c.before.requires)
+returns-2 : tie.Need-returns-else-neg
+returns-2 c = rw c.if-neg.false (size_back c.args.m c.requires)
 
-pub signed-spec : {M : Type 1} → statement M
-signed-spec = tie.close (tie.spec cast-y sub-result returns returns-2)
+pub signed_spec : {M : Type 1} → statement M
+signed_spec = tie.close (tie.spec cast-y sub-result returns returns-2)

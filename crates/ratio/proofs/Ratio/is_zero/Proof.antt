@@ -4,7 +4,7 @@ use Rattle.ratio.proofs.Ratio.is_zero.Statement.{statement}
 use Rattle.ratio.proofs.Ratio.is_zero.Tie as tie
 
 returns : tie.Need-returns
-returns c = nil-test c.before.before.args.self.num (record { sfits = c.struct_told.given.0.1 })
+returns c = nil-test c.args.self.num (record { sfits = c.struct_told-1.given.0.1 })
 
-pub is-zero-spec : {M : Type 1} → statement M
-is-zero-spec = tie.close (tie.spec returns)
+pub is_zero_spec : {M : Type 1} → statement M
+is_zero_spec = tie.close (tie.spec returns)

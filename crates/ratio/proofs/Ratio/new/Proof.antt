@@ -11,28 +11,28 @@ use borrow.Author.Rules.{rules}
 use Rattle.ratio.proofs.Ratio.new.Statement.{statement}
 use Rattle.ratio.proofs.Ratio.new.Tie as tie
 
-is-fraction-requires : tie.Need-is-fraction-requires
+is-fraction-requires : tie.Need-is_fraction-requires
 is-fraction-requires c κs = search rules
 
-tested : (c : tie.After-is-fraction) → c.is-fraction.result ≡ is_fraction (record { num = c.before.args.num; den = c.before.args.den })
-tested c = c.is-fraction.ensures ∙ ap₂ (λ (n d : ℤ). is_fraction (record { num = n; den = d })) (to_z-of_z c.before.ranges.num) (to_z-of_z c.before.ranges.den)
+tested : (c : tie.After-is_fraction) → c.is_fraction.result ≡ is_fraction (record { num = c.args.num; den = c.args.den })
+tested c = c.is_fraction.ensures ∙ ap₂ (λ (n d : ℤ). is_fraction (record { num = n; den = d })) (to_z-of_z c.ranges.num) (to_z-of_z c.ranges.den)
 
 reduce-requires : tie.Need-reduce-requires
 reduce-requires c κs =
-    let s = c.before.before in
-    rw (to_z-of_z s.ranges.num, to_z-of_z s.ranges.den) (fraction-of _ (sym (tested c.before) ∙ c.if1.true))
+    let s = c in
+    rw (to_z-of_z s.ranges.num, to_z-of_z s.ranges.den) (fraction-of _ (sym (tested c.before) ∙ c.if-is_fraction.true))
 
-returns : tie.Need-returns
+returns : tie.Need-returns-then-is_fraction
 returns c =
-    let t = c.before in
-    let s = t.before.before in
+    let t = c in
+    let s = t in
     new-both s.args.num s.args.den _
-    (ap Done (c.reduce.ensures ∙ ap₂ lowest (to_z-of_z s.ranges.num) (to_z-of_z s.ranges.den)) ∙ new-yes _ _ (sym (tested t.before) ∙ t.if1.true))
+    (ap Done (c.reduce.ensures ∙ ap₂ lowest (to_z-of_z s.ranges.num) (to_z-of_z s.ranges.den)) ∙ new-yes _ _ (sym (tested t.before.before) ∙ t.if-is_fraction.true))
 
-returns-2 : tie.Need-returns-2
+returns-2 : tie.Need-returns-else-is_fraction
 returns-2 c =
-    let s = c.before.before in
-    new-both s.args.num s.args.den _ (new-no _ _ (sym (tested c.before) ∙ c.if1.false))
+    let s = c in
+    new-both s.args.num s.args.den _ (new-no _ _ (sym (tested c.before) ∙ c.if-is_fraction.false))
 
 pub new_spec : {M : Type 1} → statement M
 new_spec = tie.close (tie.spec is-fraction-requires reduce-requires returns returns-2)
