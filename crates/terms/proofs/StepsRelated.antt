@@ -38,7 +38,7 @@ module _ {A B : Type 0} {P : A → B → Type 0} where
   pub pair-take : {xs : List A} {ys : List B} → (i : ℕ) → Pairwise P xs ys → Pairwise P (take i xs) (take i ys)
   pair-take zero h = none
   pair-take (suc i) none = none
-  pair-take (suc i) (more p h) = more p (pair-take i h)
+  pair-take (suc i) (more {x = x} {y = y} {xs = xs} {ys = ys} p h) = more p (pair-take {xs = xs} i h)
 
   pair-on_top : {xs : List A} {ys : List B} {x : A} {y : B} → (t : Bool) → Pairwise P xs ys → P x y → Pairwise P (on_top t x xs) (on_top t y ys)
   pair-on_top true none p = none
@@ -131,11 +131,11 @@ module _ {W W' Log Log' : Type 0} (R : Relation W W' Log Log') {M : Machine W Lo
   rowed-later : (op : Op) {w₀ w : R.Known} {l : Log} {n : Log'} (k : ℕ) {acc : List W} {acc' : List W'} {x : W} {y : W'} {b : List W} {b' : List W'} → Lists w₀ b b' → R.Later w₀ w → R.Logs w l n → Lists w acc acc' → R.Wires w x y → Outcome R Lists w (rowed M op acc k x b l) (rowed N op acc' k y b' n)
   unfolding rowed
   rowed-later op k none p q h c = outcome-fine q h
-  rowed-later op k (more v b) p q h c =
+  rowed-later op {w₀ = w₀} {w = w} {l = l} {n = n} k {acc = acc} {acc' = acc'} {x = x'} {y = y'} (more {x = x} {y = y} {xs = xs} {ys = ys} v b) p q h c =
       outcome-then (K.make times q c (K.still p v)) (λ w₁ l₁ n₁ t t' p₁ q₁ e.
       outcome-then (K.make op q₁ (pair-get_or (lists-still p₁ h) k (nil-related w₁)) e) (λ w₂ l₂ n₂ s s' p₂ q₂ f.
       let r = K.later_trans p₁ p₂ in
-      rowed-later op (k + 1) b (K.later_trans p r) q₂ (pair_set (lists-still r h) k f) (K.still r c)))
+      rowed-later op {w = w₂} (k + 1) b (K.later_trans p r) q₂ (pair_set (lists-still r h) k f) (K.still r c)))
 
   pub rowed-related : (op : Op) {w : R.Known} {l : Log} {n : Log'} (k : ℕ) {acc : List W} {acc' : List W'} {x : W} {y : W'} {b : List W} {b' : List W'} → R.Logs w l n → Lists w acc acc' → R.Wires w x y → Lists w b b' → Outcome R Lists w (rowed M op acc k x b l) (rowed N op acc' k y b' n)
   rowed-related op {w = w} k q h c b = rowed-later op k b (K.later_refl w) q h c

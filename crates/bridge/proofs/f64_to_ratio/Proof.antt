@@ -11,25 +11,25 @@ use Rattle.bridge.proofs.Finds.{finds-both}
 use Rattle.bridge.proofs.f64_to_ratio.Statement.{statement}
 use Rattle.bridge.proofs.f64_to_ratio.Tie as tie
 
-abbrev invariant-loop : tie.invariant-loop
+abbrev invariant-loop : tie.invariant-loop-denom
 invariant-loop v denom₀ denom-f₀ denom denom-f =
     (1 ≤ denom) × (denom ≤ 1001) × (denom-f ≡ of_int binary64 (pos denom)) × (first_from (1001 - denom) denom v ≡ first_from 1000 1 v)
 
-abbrev decreases-loop : tie.decreases-loop
+abbrev decreases-loop : tie.decreases-loop-denom
 decreases-loop v denom₀ denom-f₀ denom denom-f = 1001 - denom
 
-is-finite-requires : tie.Need-is-finite-requires invariant-loop decreases-loop
+is-finite-requires : tie.Need-is_finite-requires invariant-loop decreases-loop
 is-finite-requires c κs = tt
 
-returns : tie.Need-returns invariant-loop decreases-loop
+returns : tie.Need-returns-then-not-is_finite invariant-loop decreases-loop
 returns c =
-    let v = c.before.before.args.v in
-    finds-both v _ (not_finite v (sym c.before.is_finite.ensures ∙ not-true _ c.if1.true))
+    let v = c.args.v in
+    finds-both v _ (not_finite v (sym c.is_finite.ensures ∙ not-true _ c.if-not-is_finite.true-raw))
 
-loop-holds : tie.Need-loop-init invariant-loop decreases-loop
+loop-holds : tie.Need-loop-denom-init invariant-loop decreases-loop
 loop-holds c = (omega arith, omega arith, starts, refl)
 
-is-near-requires : tie.Need-is-near-requires invariant-loop decreases-loop
+is-near-requires : tie.Need-is_near-requires invariant-loop decreases-loop
 is-near-requires c κs = tt
 
 round-requires : tie.Need-round-requires invariant-loop decreases-loop
@@ -39,48 +39,48 @@ fraction-requires : tie.Need-fraction-requires invariant-loop decreases-loop
 fraction-requires c κs = omega arith
 
 -- v times the denominator
-product : (c : tie.After-is-near invariant-loop decreases-loop) → mul binary64 c.before.before.before.before.before.args.v c.before.before.loop.denom-f ≡ scaled c.before.before.before.before.before.args.v c.before.before.loop.denom
-product c = ap (mul binary64 c.before.before.before.before.before.args.v) c.before.before.loop.invariant.2
+product : (c : tie.After-is_near invariant-loop decreases-loop) → mul binary64 c.args.v c.loop-denom.denom_f ≡ scaled c.args.v c.loop-denom.denom
+product c = ap (mul binary64 c.args.v) c.loop-denom.invariant.2
 
 -- what the test told
-tested : (c : tie.After-is-near invariant-loop decreases-loop) → c.is-near.result ≡ near c.before.before.before.before.before.args.v c.before.before.loop.denom
+tested : (c : tie.After-is_near invariant-loop decreases-loop) → c.is_near.result ≡ near c.args.v c.loop-denom.denom
 unfolding near
-tested c = c.is-near.ensures ∙ ap (λ (x : Float). small (sub binary64 x (of_int binary64 (round_of x)))) (product c)
+tested c = c.is_near.ensures ∙ ap (λ (x : Float). small (sub binary64 x (of_int binary64 (round_of x)))) (product c)
 
 -- v is finite
-whole : (c : tie.Else1 invariant-loop decreases-loop) → first_from 1000 1 c.before.before.args.v ≡ to_ratio c.before.before.args.v
-whole c = searched c.before.before.args.v (sym c.before.is_finite.ensures ∙ not-false _ c.if1.false)
+whole : (c : tie.Else-not-is_finite invariant-loop decreases-loop) → first_from 1000 1 c.args.v ≡ to_ratio c.args.v
+whole c = searched c.args.v (sym c.is_finite.ensures ∙ not-false _ c.if-not-is_finite.false-raw)
 
-returns-2 : tie.Need-returns-2 invariant-loop decreases-loop
+returns-2 : tie.Need-returns-then-is_near invariant-loop decreases-loop
 returns-2 c =
-    let t = c.before.before.before in
-    let l = t.before.before in
-    let v = l.before.before.before.args.v in
-    let d = l.loop.denom in
-    let n : to_z w64 (of_z w64 c.before.round.result) ≡ round_of (scaled v d) = to_z-of_z (search rules) ∙ c.before.round.ensures ∙ ap round_of (product t) in
+    let t = c in
+    let l = t in
+    let v = l.args.v in
+    let d = l.loop-denom.denom in
+    let n : to_z w64 (of_z w64 c.round.result) ≡ round_of (scaled v d) = to_z-of_z {w = Rattle.std.proofs.Common.w64} (search rules) ∙ c.round.ensures ∙ ap round_of (product t.before.before.before) in
     finds-both v _
-    (c.fraction.ensures ∙ ap (λ (z : ℤ). over z d) n ∙ first-at d v (omega arith) (sym (tested t) ∙ c.before.before.if2.true) ∙ l.loop.invariant.3 ∙ whole l.before)
+    (c.fraction.ensures ∙ ap (λ (z : ℤ). over z d) n ∙ first-at d v (omega arith) (sym (tested t.before.before.before) ∙ c.if-is_near.true) ∙ l.loop-denom.invariant.3 ∙ whole l.before.before.before.before.before.before)
 
-add-denom : tie.Need-overflow-add-denom invariant-loop decreases-loop
+add-denom : tie.Need-overflow_add-denom invariant-loop decreases-loop
 add-denom c = omega arith
 
-loop-less : tie.Need-loop-smaller invariant-loop decreases-loop
+loop-less : tie.Need-loop-denom-smaller invariant-loop decreases-loop
 loop-less c = omega arith
 
-loop-again : tie.Need-loop-preserved invariant-loop decreases-loop
+loop-again : tie.Need-loop-denom-preserved invariant-loop decreases-loop
 loop-again c =
-    let t = c.before in
-    let l = t.before.before in
-    (omega arith, omega arith, counted l.loop.denom l.loop.denom-f (omega arith) l.loop.invariant.2, first_next l.loop.denom l.before.before.before.args.v (omega arith) (sym (tested t) ∙ c.if2.false) ∙ l.loop.invariant.3)
+    let t = c in
+    let l = t in
+    (omega arith, omega arith, counted l.loop-denom.denom l.loop-denom.denom_f (omega arith) l.loop-denom.invariant.2, first_next l.loop-denom.denom l.args.v (omega arith) (sym (tested t.before) ∙ c.if-is_near.false) ∙ l.loop-denom.invariant.3)
 
-returns-3 : tie.Need-returns-3 invariant-loop decreases-loop
+returns-3 : tie.Need-returns invariant-loop decreases-loop
 returns-3 c =
-    let l = c.before in
-    let v = l.before.before.before.args.v in
-    finds-both v _ (first-none l.loop.denom v (omega arith) ∙ l.loop.invariant.3 ∙ whole l.before)
+    let l = c in
+    let v = l.args.v in
+    finds-both v _ (first-none l.loop-denom.denom v (omega arith) ∙ l.loop-denom.invariant.3 ∙ whole l.before.before)
 
-pub f64-to-ratio-spec : {M : Type 1} → statement M
-f64-to-ratio-spec =
+pub f64_to_ratio_spec : {M : Type 1} → statement M
+f64_to_ratio_spec =
     tie.close
     (tie.spec
     invariant-loop

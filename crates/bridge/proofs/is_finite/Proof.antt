@@ -16,11 +16,11 @@ in_reach (inf true) = refl
 in_reach (inf false) = refl
 in_reach (fin s m e) = refl
 
-returns : tie.Need-returns
-returns c = let x = c.before.args.v in ap (λ (b : Bool). b && Ieee.lt (Ieee.neg huge) x) (sym c.if1.true) ∙ in_reach x
+returns : tie.Need-returns-then-v-infinity
+returns c = let x = c.args.v in ap (λ (b : Bool). b && Ieee.lt (Ieee.neg huge) x) (sym c.if-v-infinity.true) ∙ in_reach x
 
-returns-2 : tie.Need-returns-2
-returns-2 c = let x = c.before.args.v in ap (λ (b : Bool). b && Ieee.lt (Ieee.neg huge) x) (sym c.if1.false) ∙ in_reach x
+returns-2 : tie.Need-returns-else-v-infinity
+returns-2 c = let x = c.args.v in ap (λ (b : Bool). b && Ieee.lt (Ieee.neg huge) x) (sym c.if-v-infinity.false) ∙ in_reach x
 
-pub is-finite-spec : {M : Type 1} → statement M
-is-finite-spec = tie.close (tie.spec returns returns-2)
+pub is_finite_spec : {M : Type 1} → statement M
+is_finite_spec = tie.close (tie.spec returns returns-2)

@@ -6,35 +6,35 @@ use Rattle.bridge.proofs.Snap.{above, under}
 use Rattle.bridge.proofs.is_near.Statement.{statement}
 use Rattle.bridge.proofs.is_near.Tie as tie
 
-is-small-requires : tie.Need-is-small-requires
+is-small-requires : tie.Need-is_small-requires
 is-small-requires c κs = tt
 
-returns : tie.Need-returns
-returns c = c.is-small.ensures ∙ above c.before.before.before.args.x c.before.before.if1.true c.before.if2.true
+returns : tie.Need-returns-then-x-2
+returns c = c.is_small.ensures ∙ above c.args.x c.if-x.true c.if-x-2.true
 
-is-small-requires-2 : tie.Need-is-small-requires-2
+is-small-requires-2 : tie.Need-is_small-requires-then-x-4
 is-small-requires-2 c κs = tt
 
-returns-2 : tie.Need-returns-2
-returns-2 c = c.is-small2.ensures ∙ under c.before.before.before.before.args.x c.before.before.if3.true c.before.if4.true
+returns-2 : tie.Need-returns-then-x-4
+returns-2 c = c.is_small-then-x-4.ensures ∙ under c.args.x c.if-x-3.true c.if-x-4.true
 
 round-requires : tie.Need-round-requires
 round-requires c κs = tt
 
-nearest-i64-requires : tie.Need-nearest-i64-requires
+nearest-i64-requires : tie.Need-nearest_i64-requires
 nearest-i64-requires c κs = tt
 
-is-small-requires-3 : tie.Need-is-small-requires-3
+is-small-requires-3 : tie.Need-is_small-requires-2
 is-small-requires-3 c κs = tt
 
-returns-3 : tie.Need-returns-3
+returns-3 : tie.Need-returns
 returns-3 c =
-    let x = c.before.before.before.before.args.x in
-    c.is-small3.ensures
-    ∙ ap (λ (y : Float). small (sub binary64 x y)) (c.before.nearest-i64.ensures ∙ ap (of_int binary64) (to_z-of_z (search rules) ∙ c.before.before.round.ensures))
+    let x = c.args.x in
+    c.is_small-2.ensures
+    ∙ ap (λ (y : Float). small (sub binary64 x y)) (c.nearest_i64.ensures ∙ ap (of_int binary64) (to_z-of_z {w = Rattle.std.proofs.Common.w64} (search rules) ∙ c.round.ensures))
 
-pub is-near-spec : {M : Type 1} → statement M
-is-near-spec =
+pub is_near_spec : {M : Type 1} → statement M
+is_near_spec =
     tie.close
     (tie.spec
     is-small-requires

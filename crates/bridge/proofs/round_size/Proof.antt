@@ -5,19 +5,19 @@ use Rattle.bridge.proofs.round_size.Statement.{statement}
 use Rattle.bridge.proofs.round_size.Tie as tie
 
 start : (c : tie.Start) → Sized c.args.a
-start c = sized c.args.a (subst T (sym c.well-formed.0.1) tt) c.requires.0 c.requires.1
+start c = sized c.args.a (subst T (sym c.well_formed.0.1) tt) c.requires.0 c.requires.1
 
-truncating-f64-to-u64-requires : tie.Need-truncating-f64-to-u64-requires
+truncating-f64-to-u64-requires : tie.Need-truncating_f64_to_u64-twice-requires
 truncating-f64-to-u64-requires c κs = let k = start c in (k.0, k.1)
 
-add-result : tie.Need-overflow-add-result
+add-result : tie.Need-overflow_add-result
 add-result c = search rules
 
 returns : tie.Need-returns
 returns c =
     let k = start c.before in
-    let e = ap (λ (w : ℕ). w / 2 + w % 2) c.truncating-f64-to-u64.ensures ∙ k.2 in
+    let e = ap (λ (w : ℕ). w / 2 + w % 2) c.truncating_f64_to_u64-twice.ensures ∙ k.2 in
     (e, omega (arith, e, k.3))
 
-pub round-size-spec : {M : Type 1} → statement M
-round-size-spec = tie.close (tie.spec truncating-f64-to-u64-requires add-result returns)
+pub round_size_spec : {M : Type 1} → statement M
+round_size_spec = tie.close (tie.spec truncating-f64-to-u64-requires add-result returns)

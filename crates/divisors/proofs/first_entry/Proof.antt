@@ -8,23 +8,23 @@ use Rattle.ratio.proofs.Words.{size_back}
 use Rattle.divisors.proofs.first_entry.Statement.{statement}
 use Rattle.divisors.proofs.first_entry.Tie as tie
 
-add-t4 : tie.Need-overflow-add-t4
+add-t4 : tie.Need-overflow_add-result
 add-t4 c = search rules
 
-cast-t5 : tie.Need-overflow-cast-t5
+cast-t5 : tie.Need-overflow_cast-result
 cast-t5 c = search rules
 
-mul-t6 : tie.Need-overflow-mul-t6
+mul-t6 : tie.Need-overflow_mul-result
 mul-t6 c = search rules
 
-add-t7 : tie.Need-overflow-add-t7
+add-t7 : tie.Need-overflow_add-result-then-j-lt65536
 add-t7 c = search rules
 
-returns : tie.Need-returns
-returns c = rw (lt-ltb _ _ c.if1.true, size_back (c.before.args.j + 1) (omega arith))
+returns : tie.Need-returns-then-j-lt65536
+returns c = rw (lt-ltb _ _ c.if-j-lt65536.true, size_back (c.args.j + 1) (omega arith))
 
-returns-2 : tie.Need-returns-2
-returns-2 c = rw (le-ltb _ _ c.if1.false)
+returns-2 : tie.Need-returns-else-j-lt65536
+returns-2 c = rw (le-ltb _ _ c.if-j-lt65536.false)
 
-pub first-entry-spec : {M : Type 1} → statement M
-first-entry-spec = tie.close (tie.spec add-t4 cast-t5 mul-t6 add-t7 returns returns-2)
+pub first_entry_spec : {M : Type 1} → statement M
+first_entry_spec = tie.close (tie.spec add-t4 cast-t5 mul-t6 add-t7 returns returns-2)

@@ -19,65 +19,65 @@ abbrev done : ℕ → List ℕ → Listing
 done size marks = record { outcome = Done; size = size; marks = marks }
 
 -- the size that the code tests is that of n
-size : (c : tie.After-magnitude) → c.magnitude.result ≡ nat_abs c.before.args.n
-size c = c.magnitude.ensures ∙ ap nat_abs (to_z-of_z c.before.ranges.n)
+size : (c : tie.After-magnitude-size) → c.magnitude-size.result ≡ nat_abs c.args.n
+size c = c.magnitude-size.ensures ∙ ap nat_abs (to_z-of_z c.ranges.n)
 
-magnitude-requires : tie.Need-magnitude-requires
+magnitude-requires : tie.Need-magnitude-size-requires
 magnitude-requires c κs = search rules
 
 refused-requires : tie.Need-refused-requires
 refused-requires c κs = search rules
 
-refused-requires-2 : tie.Need-refused-requires-2
+refused-requires-2 : tie.Need-refused-requires-then-budget-eq0
 refused-requires-2 c κs = search rules
 
-refused-requires-3 : tie.Need-refused-requires-3
+refused-requires-3 : tie.Need-refused-requires-then-budget-gt65536
 refused-requires-3 c κs = search rules
 
-add-if4 : tie.Need-overflow-add-if4
+add-if4 : tie.Need-overflow_add-budget
 add-if4 c = search rules
 
-add-if4-2 : tie.Need-overflow-add-if4-2
+add-if4-2 : tie.Need-overflow_add-budget-else-budget-gt65536
 add-if4-2 c = search rules
 
-mul-if4 : tie.Need-overflow-mul-if4
-mul-if4 c = omega (arith, square_le (c.before.before.before.before.args.budget + 1) 65537 (omega arith))
+mul-if4 : tie.Need-overflow_mul-budget
+mul-if4 c = omega (arith, square_le (c.args.budget + 1) 65537 (omega arith))
 
-refused-requires-4 : tie.Need-refused-requires-4
+refused-requires-4 : tie.Need-refused-requires-then-budget-size
 refused-requires-4 c κs = search rules
 
-mark-all-requires : tie.Need-mark-all-requires
+mark-all-requires : tie.Need-mark_all-requires
 mark-all-requires c κs = search rules
 
-returns : tie.Need-returns
+returns : tie.Need-returns-then-size-gt9223372036854775807
 returns c =
-    let m = c.before.before in
-    listed-both (c.refused.ensures ∙ sym (listing-large _ _ (omega (arith, size m))))
+    let m = c in
+    listed-both (c.refused.ensures ∙ sym (listing-large _ _ (omega (arith, size m.before.before))))
 
-returns-2 : tie.Need-returns-2
+returns-2 : tie.Need-returns-then-budget-eq0
 returns-2 c =
-    let m = c.before.before.before in
-    listed-both (c.refused2.ensures ∙ sym (listing_none _ _ (omega (arith, size m)) c.before.if2.true))
+    let m = c in
+    listed-both (c.refused-then-budget-eq0.ensures ∙ sym (listing_none _ _ (omega (arith, size m.before.before.before)) c.if-budget-eq0.true))
 
-returns-3 : tie.Need-returns-3
+returns-3 : tie.Need-returns-then-budget-gt65536
 returns-3 c =
-    let m = c.before.before.before.before in
-    listed-both (c.refused3.ensures ∙ sym (listing-over _ _ (omega (arith, size m)) c.before.before.if2.false c.before.if3.true))
+    let m = c in
+    listed-both (c.refused-then-budget-gt65536.ensures ∙ sym (listing-over _ _ (omega (arith, size m.before.before.before.before)) c.if-budget-eq0.false c.if-budget-gt65536.true))
 
-returns-4 : tie.Need-returns-4
+returns-4 : tie.Need-returns-then-budget-size
 returns-4 c =
-    let m = c.before.before.before.before.before in
-    listed-both (c.refused4.ensures ∙ sym (listing-budget _ _ (omega (arith, size m)) c.before.before.before.if2.false c.before.before.if3.false (omega (arith, size m))))
+    let m = c in
+    listed-both (c.refused-then-budget-size.ensures ∙ sym (listing-budget _ _ (omega (arith, size m.before.before.before.before.before)) c.if-budget-eq0.false c.if-budget-gt65536.false (omega (arith, size m.before.before.before.before.before))))
 
-returns-5 : tie.Need-returns-5
+returns-5 : tie.Need-returns-else-budget-size
 returns-5 c =
-    let m = c.before.before.before.before.before in
+    let m = c in
     listed-both
-    (ap₂ done (size m) (c.mark-all.ensures ∙ ap marks_of (size m))
-    ∙ sym (listing-done _ _ (omega (arith, size m)) c.before.before.before.if2.false c.before.before.if3.false (omega (arith, size m))))
+    (ap₂ done (size m.before.before.before.before.before) (c.mark_all.ensures ∙ ap marks_of (size m.before.before.before.before.before))
+    ∙ sym (listing-done _ _ (omega (arith, size m.before.before.before.before.before)) c.if-budget-eq0.false c.if-budget-gt65536.false (omega (arith, size m.before.before.before.before.before))))
 
-pub integer-factors-spec : {M : Type 1} → statement M
-integer-factors-spec =
+pub integer_factors_spec : {M : Type 1} → statement M
+integer_factors_spec =
     tie.close
     (tie.spec
     magnitude-requires

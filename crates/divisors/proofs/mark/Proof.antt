@@ -9,20 +9,20 @@ use mathlib.Core.Path.{◌≡◌, sym, ap}
 use Rattle.divisors.proofs.mark.Statement.{statement}
 use Rattle.divisors.proofs.mark.Tie as tie
 
-mul-if1 : tie.Need-overflow-mul-if1
+mul-if1 : tie.Need-overflow_mul-i
 mul-if1 c = omega (arith, square_le c.args.i 65536 c.requires.1)
 
-rem-if2 : tie.Need-nonzero-rem-if2
+rem-if2 : tie.Need-nonzero_rem-n
 rem-if2 c = search rules
 
-returns : tie.Need-returns
-returns c = let s = c.before.before.args in rw (le-leb (s.i * s.i) s.n (omega arith), eq-eqb _ _ c.if2.true)
+returns : tie.Need-returns-then-n-i-eq0
+returns c = let s = c.args in rw (le-leb (s.i * s.i) s.n (omega arith), eq-eqb _ _ c.if-n-i-eq0.true)
 
-returns-2 : tie.Need-returns-2
-returns-2 c = let s = c.before.before.args in rw (le-leb (s.i * s.i) s.n (omega arith), ne_eqb _ _ c.if2.false)
+returns-2 : tie.Need-returns-else-n-i-eq0
+returns-2 c = let s = c.args in rw (le-leb (s.i * s.i) s.n (omega arith), ne_eqb _ _ c.if-n-i-eq0.false)
 
-returns-3 : tie.Need-returns-3
-returns-3 c = sym (ap digit (above_root c.before.args.n c.before.args.i c.if1.false))
+returns-3 : tie.Need-returns-else-i-n
+returns-3 c = sym (ap digit (above_root c.args.n c.args.i c.if-i-n.false))
 
 pub mark_spec : {M : Type 1} → statement M
 mark_spec = tie.close (tie.spec mul-if1 rem-if2 returns returns-2 returns-3)

@@ -9,56 +9,56 @@ use Rattle.divisors.proofs.mark_all.Reads as reads
 use Rattle.divisors.proofs.mark_all.Lts as lts
 use Rattle.divisors.proofs.mark_word.Reads as mark-word-reads
 
-abbrev invariant-loop : tie.invariant-loop
+abbrev invariant-loop : tie.invariant-loop-w
 invariant-loop n marks₀ w₀ marks w = (w ≤ 1024) × Filled n w marks
 
-abbrev decreases-loop : tie.decreases-loop
+abbrev decreases-loop : tie.decreases-loop-w
 decreases-loop n marks₀ w₀ marks w = 1024 - w
 
-loop-holds : tie.Need-loop-init invariant-loop decreases-loop
+loop-holds : tie.Need-loop-w-init invariant-loop decreases-loop
 loop-holds c = (omega arith, filled_none c.args.n)
 
-mul-first : tie.Need-overflow-mul-first invariant-loop decreases-loop
+mul-first : tie.Need-overflow_mul-first invariant-loop decreases-loop
 mul-first c = omega arith
 
-add-first : tie.Need-overflow-add-first invariant-loop decreases-loop
+add-first : tie.Need-overflow_add-first invariant-loop decreases-loop
 add-first c = omega arith
 
-mul-if1 : tie.Need-overflow-mul-if1 invariant-loop decreases-loop
-mul-if1 c = omega (arith, square_le (c.before.loop.w * 64 + 1) 65537 (omega arith))
+mul-if1 : tie.Need-overflow_mul-first-in-loop-w invariant-loop decreases-loop
+mul-if1 c = omega (arith, square_le (c.loop-w.w * 64 + 1) 65537 (omega arith))
 
-returns : tie.Need-returns invariant-loop decreases-loop
+returns : tie.Need-returns-then-first-n invariant-loop decreases-loop
 returns c =
-    let l = c.before.before.loop in
+    let l = c.loop-w in
     complete _ l.w l.marks l.invariant.1 (λ v g h. omega (arith, square_le (l.w * 64 + 1) (v * 64 + 1) (omega arith)))
 
-mark-word-requires : tie.Need-mark-word-requires invariant-loop decreases-loop
+mark-word-requires : tie.Need-mark_word-requires invariant-loop decreases-loop
 mark-word-requires c κs = omega arith
 
-mul-marks : tie.Need-overflow-mul-marks invariant-loop decreases-loop
+mul-marks : tie.Need-offset_bounds-marks-w invariant-loop decreases-loop
 mul-marks c = omega arith
 
-array-write-marks : tie.Need-array-write-marks invariant-loop decreases-loop
+array-write-marks : tie.Need-bounds-marks-w invariant-loop decreases-loop
 array-write-marks c = omega arith
 
-add-w : tie.Need-overflow-add-w invariant-loop decreases-loop
+add-w : tie.Need-overflow_add-w invariant-loop decreases-loop
 add-w c = omega arith
 
-loop-less : tie.Need-loop-smaller invariant-loop decreases-loop
+loop-less : tie.Need-loop-w-smaller invariant-loop decreases-loop
 loop-less c = omega arith
 
-loop-again : tie.Need-loop-preserved invariant-loop decreases-loop
+loop-again : tie.Need-loop-w-preserved invariant-loop decreases-loop
 loop-again c =
-    let l = c.before.before.before.loop in
-    (omega arith, filled_more _ l.w l.marks c.mark-word.result (omega arith) c.mark-word.ensures l.invariant.1)
+    let l = c.loop-w in
+    (omega arith, filled_more _ l.w l.marks c.mark_word.result (omega arith) c.mark_word.ensures l.invariant.1)
 
-returns-2 : tie.Need-returns-2 invariant-loop decreases-loop
+returns-2 : tie.Need-returns invariant-loop decreases-loop
 returns-2 c =
-    let l = c.before.loop in
+    let l = c.loop-w in
     complete _ l.w l.marks l.invariant.1 (λ v g h. absurd (omega arith))
 
-pub mark-all-spec : {M : Type 1} → statement M
-mark-all-spec =
+pub mark_all_spec : {M : Type 1} → statement M
+mark_all_spec =
     tie.close
     (tie.spec
     invariant-loop

@@ -9,62 +9,62 @@ use Rattle.divisors.proofs.Skip.{below, mark-here, mark-skip, mark-none, mark-pa
 use Rattle.divisors.proofs.next_mark.Statement.{statement}
 use Rattle.divisors.proofs.next_mark.Tie as tie
 
-abbrev invariant-loop : tie.invariant-loop
+abbrev invariant-loop : tie.invariant-loop-j
 invariant-loop size marks from j₀ j = (j ≤ 65536) × (mark_from size marks (65536 - j) j ≡ mark_from size marks (65536 - from) from)
 
-abbrev decreases-loop : tie.decreases-loop
+abbrev decreases-loop : tie.decreases-loop-j
 decreases-loop size marks from j₀ j = 65536 - j
 
-loop-holds : tie.Need-loop-init invariant-loop decreases-loop
+loop-holds : tie.Need-loop-j-init invariant-loop decreases-loop
 loop-holds c = (c.requires, refl)
 
-past-root-requires : tie.Need-past-root-requires invariant-loop decreases-loop
-past-root-requires c κs = c.loop-test.true
+past-root-requires : tie.Need-past_root-requires invariant-loop decreases-loop
+past-root-requires c κs = c.loop-j-test.true
 
-returns : tie.Need-returns invariant-loop decreases-loop
+returns : tie.Need-returns-then-past_root invariant-loop decreases-loop
 returns c =
-    let i = c.before.before in
-    let s = i.before.before.args in
-    let l = i.before.loop in
-    sym (mark-past s.size s.marks.now (65536 - l.j) l.j (ltb-true _ _ (sym c.before.past-root.ensures ∙ c.if1.true)) ∙ (let e : l.j + (65536 - l.j) ≡ 65536 = omega arith in e)) ∙ l.invariant.1
+    let i = c in
+    let s = i.args in
+    let l = i.loop-j in
+    sym (mark-past s.size s.marks.now (65536 - l.j) l.j (ltb-true _ _ (sym c.past_root.ensures ∙ c.if-past_root.true)) ∙ (let e : l.j + (65536 - l.j) ≡ 65536 = omega arith in e)) ∙ l.invariant.1
 
-is-marked-requires : tie.Need-is-marked-requires invariant-loop decreases-loop
-is-marked-requires c κs = c.before.before.loop-test.true
+is-marked-requires : tie.Need-is_marked-requires invariant-loop decreases-loop
+is-marked-requires c κs = c.loop-j-test.true
 
-returns-2 : tie.Need-returns-2 invariant-loop decreases-loop
+returns-2 : tie.Need-returns-then-is_marked invariant-loop decreases-loop
 returns-2 c =
-    let p = c.before.before.before in
-    let s = p.before.before.before.args in
-    let l = p.before.before.loop in
-    sym (mark-here s.size s.marks.now (65536 - l.j) l.j (below s.size s.marks.now l.j true (ltb-false _ _ (sym p.past-root.ensures ∙ c.before.before.if1.false)) (sym c.before.is-marked.ensures ∙ c.if2.true)) (omega arith)) ∙ l.invariant.1
+    let p = c in
+    let s = p.args in
+    let l = p.loop-j in
+    sym (mark-here s.size s.marks.now (65536 - l.j) l.j (below s.size s.marks.now l.j true (ltb-false _ _ (sym p.past_root.ensures ∙ c.if-past_root.false)) (sym c.is_marked.ensures ∙ c.if-is_marked.true)) (omega arith)) ∙ l.invariant.1
 
-stride-requires : tie.Need-stride-requires invariant-loop decreases-loop
-stride-requires c κs = (c.before.before.before.before.loop-test.true, sym c.before.is-marked.ensures ∙ c.if2.false)
+stride-requires : tie.Need-stride-j-requires invariant-loop decreases-loop
+stride-requires c κs = (c.loop-j-test.true, sym c.is_marked.ensures ∙ c.if-is_marked.false)
 
-abbrev inside : tie.After-stride invariant-loop decreases-loop → tie.In-loop invariant-loop decreases-loop
+abbrev inside : tie.After-stride-j invariant-loop decreases-loop → tie.In-loop-j invariant-loop decreases-loop
 inside c = c.before.before.before.before.before
 
 -- what the stride passes over
-passed : (c : tie.After-stride invariant-loop decreases-loop) → Clear (inside c).before.before.args.marks.now (inside c).before.loop.j c.stride.result
-passed c = c.stride.ensures
+passed : (c : tie.After-stride-j invariant-loop decreases-loop) → Clear (inside c).args.marks.now (inside c).loop-j.j c.stride-j.result
+passed c = c.stride-j.ensures
 
-add-j : tie.Need-overflow-add-j invariant-loop decreases-loop
+add-j : tie.Need-overflow_add-j invariant-loop decreases-loop
 add-j c = record { fits = let p = (passed c).inside in omega arith }
 
-loop-less : tie.Need-loop-smaller invariant-loop decreases-loop
+loop-less : tie.Need-loop-j-smaller invariant-loop decreases-loop
 loop-less c = let p = (passed c).inside in let q = (passed c).some in omega arith
 
-loop-again : tie.Need-loop-preserved invariant-loop decreases-loop
+loop-again : tie.Need-loop-j-preserved invariant-loop decreases-loop
 loop-again c =
     let i = inside c in
-    ((passed c).inside, mark-skip i.before.before.args.size _ i.before.loop.j c.stride.result (passed c) ∙ i.before.loop.inv.1)
+    ((passed c).inside, mark-skip i.args.size _ i.loop-j.j c.stride-j.result (passed c) ∙ i.loop-j.invariant.1)
 
-returns-3 : tie.Need-returns-3 invariant-loop decreases-loop
+returns-3 : tie.Need-returns invariant-loop decreases-loop
 returns-3 c =
-    let l = c.before.loop in
-    let s = c.before.before.args in
+    let l = c.loop-j in
+    let s = c.args in
     sym (ap (λ n. mark_from s.size s.marks.now n l.j) (let e : 65536 - l.j ≡ 0 = omega arith in e) ∙ mark-none s.size _ l.j) ∙ l.invariant.1
 
-pub next-mark-spec : {M : Type 1} → statement M
-next-mark-spec =
+pub next_mark_spec : {M : Type 1} → statement M
+next_mark_spec =
     tie.close (tie.spec invariant-loop decreases-loop loop-holds past-root-requires returns is-marked-requires returns-2 stride-requires add-j loop-less loop-again returns-3)

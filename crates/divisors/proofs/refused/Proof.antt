@@ -8,5 +8,5 @@ returns : tie.Need-returns
 unfolding refused_by
 returns c = search rules
 
-pub refused-spec : {M : Type 1} → statement M
-refused-spec = tie.close (tie.spec returns)
+pub refused_spec : {M : Type 1} → statement M
+refused_spec = tie.close (tie.spec returns)

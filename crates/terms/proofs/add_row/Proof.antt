@@ -14,138 +14,138 @@ use Rattle.terms.proofs.Rows.{Added, added_none, added_more, product-over, sum_o
 use Rattle.terms.proofs.add_row.Statement.{statement}
 use Rattle.terms.proofs.add_row.Tie as tie
 
-abbrev invariant-loop : tie.invariant-loop
+abbrev invariant-loop : tie.invariant-loop-j
 invariant-loop k x steps b m out₀ count₀ j₀ out count j =
     (k + m ≤ 32) × (steps ≤ 65536) × (m ≡ length (terms_of b)) × (j ≤ m) × (count ≡ steps + 2 * j) × (length out ≡ 32) × Added plus out₀ k x (terms_of b) steps j count out
 
-abbrev decreases-loop : tie.decreases-loop
+abbrev decreases-loop : tie.decreases-loop-j
 decreases-loop k x steps b m out₀ count₀ j₀ out count j = m - j
 
-length-requires : tie.Need-length-requires invariant-loop decreases-loop
+length-requires : tie.Need-length-m-requires invariant-loop decreases-loop
 length-requires c κs = tt
 
-loop-holds : tie.Need-loop-init invariant-loop decreases-loop
+loop-holds : tie.Need-loop-j-init invariant-loop decreases-loop
 loop-holds c =
-    let s = c.before.args in
-    (omega (arith, c.length.ensures, c.before.requires), omega arith, c.length.ensures, omega arith, omega arith, search (rules, long), added_none plus s.acc s.k s.x (terms_of s.t4) s.steps)
+    let s = c.args in
+    (omega (arith, c.length-m.ensures, c.requires), omega arith, c.length-m.ensures, omega arith, omega arith, search (rules, long), added_none plus s.acc s.k s.x (terms_of s.b) s.steps)
 
-mul-c : tie.Need-overflow-mul-c invariant-loop decreases-loop
+mul-c : tie.Need-offset_bounds-b-j invariant-loop decreases-loop
 mul-c c = omega arith
 
-element-copy-out-c : tie.Need-element-copy-out-c invariant-loop decreases-loop
+element-copy-out-c : tie.Need-bounds-b-j invariant-loop decreases-loop
 element-copy-out-c c = omega arith
 
-checked-mul-requires : tie.Need-checked-mul-requires invariant-loop decreases-loop
+checked-mul-requires : tie.Need-checked_mul-requires invariant-loop decreases-loop
 checked-mul-requires c κs = tt
 
 -- the product and the sum of a turn
-product : (c : tie.After-checked-mul invariant-loop decreases-loop) → mul_of c.before.before.before.before.before.args.x (get_or (terms_of c.before.before.before.before.before.args.t4) c.before.before.before.loop.j zero_r) ≡ c.checked-mul.result
+product : (c : tie.After-checked_mul invariant-loop decreases-loop) → mul_of c.args.x (get_or (terms_of c.args.b) c.loop-j.j zero_r) ≡ c.checked_mul.result
 product c =
-    let l = c.before.before.before in
-    let s = l.before.before.args in
-    sym (rw (read-terms s.t4.len s.t4.coeffs l.loop.j past zero_r (omega arith)) at c.checked-mul.ensures.0)
+    let l = c in
+    let s = l.args in
+    sym (rw (read-terms s.b.len s.b.coeffs l.loop-j.j past zero_r (omega arith)) at c.checked_mul.ensures.0)
 
-enum-known-t : tie.Need-enum-known-t invariant-loop decreases-loop
+enum-known-t : tie.Need-enum_known-t invariant-loop decreases-loop
 enum-known-t c = search rules
 
-enum_told : tie.Need-enum-told invariant-loop decreases-loop
+enum_told : tie.Need-enum_told-1 invariant-loop decreases-loop
 enum_told c = search rules
 
-add-row-refused : tie.Need-overflow-add-row-refused invariant-loop decreases-loop
+add-row-refused : tie.Need-overflow_add-count invariant-loop decreases-loop
 add-row-refused c = omega arith
 
-row-refused-requires : tie.Need-row-refused-requires invariant-loop decreases-loop
+row-refused-requires : tie.Need-row_refused-requires invariant-loop decreases-loop
 row-refused-requires c κs = tt
 
-returns : tie.Need-returns invariant-loop decreases-loop
+returns : tie.Need-returns-in_default invariant-loop decreases-loop
 returns c =
-    let m = c.before.before.before in
-    let l = m.before.before.before in
-    let s = l.before.before.args in
-    c.row-refused.ensures
-    ∙ ap row_of (product-over plus s.acc s.k s.x (terms_of s.t4) s.steps l.loop.j l.loop.count l.loop.out (omega arith) l.loop.invariant.6 _ (product m ∙ c.before.enum_told.given.1))
+    let m = c in
+    let l = m in
+    let s = l.args in
+    c.row_refused.ensures
+    ∙ ap row_of (product-over plus s.acc s.k s.x (terms_of s.b) s.steps l.loop-j.j l.loop-j.count l.loop-j.out (omega arith) l.loop-j.invariant.6 _ (product m.before.before ∙ c.in_default.is))
 
-add-old : tie.Need-overflow-add-old invariant-loop decreases-loop
+add-old : tie.Need-overflow_add-old invariant-loop decreases-loop
 add-old c = omega arith
 
-mul-old : tie.Need-overflow-mul-old invariant-loop decreases-loop
+mul-old : tie.Need-offset_bounds-out-k invariant-loop decreases-loop
 mul-old c = omega arith
 
-array-copy-out-old : tie.Need-array-copy-out-old invariant-loop decreases-loop
+array-copy-out-old : tie.Need-bounds-out-k invariant-loop decreases-loop
 array-copy-out-old c = omega arith
 
-checked-add-requires : tie.Need-checked-add-requires invariant-loop decreases-loop
+checked-add-requires : tie.Need-checked_add-requires invariant-loop decreases-loop
 checked-add-requires c κs = tt
 
-added : (c : tie.After-checked-add invariant-loop decreases-loop) →
-    add_of (get_or c.before.before.before.before.before.before.before.before.loop.out (c.before.before.before.before.before.before.before.before.before.before.args.k + c.before.before.before.before.before.before.before.before.loop.j) zero_r) c.before.before.before.t.given.0.0 ≡ c.checked-add.result
+added : (c : tie.After-checked_add invariant-loop decreases-loop) →
+    add_of (get_or c.loop-j.out (c.args.k + c.loop-j.j) zero_r) c.in-Done.t ≡ c.checked_add.result
 added c =
-    let l = c.before.before.before.before.before.before.before.before in
-    let s = l.before.before.args in
-    sym (rw (get_d_any l.loop.out (s.k + l.loop.j) past zero_r (omega (arith, l.loop.invariant))) at c.checked-add.ensures.0)
+    let l = c in
+    let s = l.args in
+    sym (rw (get_d_any l.loop-j.out (s.k + l.loop-j.j) past zero_r (omega (arith, l.loop-j.invariant))) at c.checked_add.ensures.0)
 
-enum-known-s : tie.Need-enum-known-s invariant-loop decreases-loop
+enum-known-s : tie.Need-enum_known-s invariant-loop decreases-loop
 enum-known-s c = search rules
 
-enum-told-2 : tie.Need-enum-told-2 invariant-loop decreases-loop
+enum-told-2 : tie.Need-enum_told-in_default-checked_add invariant-loop decreases-loop
 enum-told-2 c = search rules
 
-add-row-refused-2 : tie.Need-overflow-add-row-refused-2 invariant-loop decreases-loop
+add-row-refused-2 : tie.Need-overflow_add-count-in_default-checked_add invariant-loop decreases-loop
 add-row-refused-2 c = omega arith
 
-row-refused-requires-2 : tie.Need-row-refused-requires-2 invariant-loop decreases-loop
+row-refused-requires-2 : tie.Need-row_refused-requires-in_default-checked_add invariant-loop decreases-loop
 row-refused-requires-2 c κs = tt
 
-returns-2 : tie.Need-returns-2 invariant-loop decreases-loop
+returns-2 : tie.Need-returns-in_default-checked_add invariant-loop decreases-loop
 returns-2 c =
-    let a = c.before.before.before in
-    let m = a.before.before.before.before.before in
-    let l = m.before.before.before in
-    let s = l.before.before.args in
-    c.row-refused2.ensures
-    ∙ ap row_of (sum_over plus s.acc s.k s.x (terms_of s.t4) s.steps l.loop.j l.loop.count l.loop.out (omega arith) l.loop.invariant.6 _ _ (product m ∙ a.before.before.before.t.given.1) (added a ∙ c.before.enum-told2.given.1))
+    let a = c in
+    let m = a in
+    let l = m in
+    let s = l.args in
+    c.row_refused-in_default-checked_add.ensures
+    ∙ ap row_of (sum_over plus s.acc s.k s.x (terms_of s.b) s.steps l.loop-j.j l.loop-j.count l.loop-j.out (omega arith) l.loop-j.invariant.6 _ _ (product m.before.before.before.before.before ∙ a.in-Done.is) (added a.before.before ∙ c.in_default-checked_add.is))
 
-add-out : tie.Need-overflow-add-out invariant-loop decreases-loop
+add-out : tie.Need-overflow_add-out invariant-loop decreases-loop
 add-out c = omega arith
 
-mul-out : tie.Need-overflow-mul-out invariant-loop decreases-loop
+mul-out : tie.Need-offset_bounds-out-k-in-loop-j invariant-loop decreases-loop
 mul-out c = omega arith
 
-array-set-from-out : tie.Need-array-set-from-out invariant-loop decreases-loop
+array-set-from-out : tie.Need-bounds-out-k-in-loop-j invariant-loop decreases-loop
 array-set-from-out c = omega arith
 
-add-count : tie.Need-overflow-add-count invariant-loop decreases-loop
+add-count : tie.Need-overflow_add-count-in-loop-j invariant-loop decreases-loop
 add-count c = omega arith
 
-add-j : tie.Need-overflow-add-j invariant-loop decreases-loop
+add-j : tie.Need-overflow_add-j invariant-loop decreases-loop
 add-j c = omega arith
 
-loop-less : tie.Need-loop-smaller invariant-loop decreases-loop
+loop-less : tie.Need-loop-j-smaller invariant-loop decreases-loop
 loop-less c = omega arith
 
-loop-again : tie.Need-loop-preserved invariant-loop decreases-loop
+loop-again : tie.Need-loop-j-preserved invariant-loop decreases-loop
 loop-again c =
-    let a = c.before.before.before in
-    let m = a.before.before.before.before.before in
-    let l = m.before.before.before in
-    let s = l.before.before.args in (
-      l.loop.invariant.0,
-      l.loop.invariant.1,
-      l.loop.invariant.2,
+    let a = c in
+    let m = a in
+    let l = m in
+    let s = l.args in (
+      l.loop-j.invariant.0,
+      l.loop-j.invariant.1,
+      l.loop-j.invariant.2,
       omega arith,
       omega arith,
-      length-set l.loop.out (s.k + l.loop.j) _ ∙ l.loop.invariant.5,
-      added_more plus s.acc s.k s.x (terms_of s.t4) s.steps l.loop.j l.loop.count l.loop.out (omega arith) l.loop.invariant.6 _ _ (product m ∙ a.before.before.before.t.given.1) (added a ∙ c.before.s.given.1),
+      length-set l.loop-j.out (s.k + l.loop-j.j) _ ∙ l.loop-j.invariant.5,
+      added_more plus s.acc s.k s.x (terms_of s.b) s.steps l.loop-j.j l.loop-j.count l.loop-j.out (omega arith) l.loop-j.invariant.6 _ _ (product m.before.before.before.before ∙ a.in-Done.is) (added a.before ∙ c.in-Done-checked_add.is),
     )
 
-returns-3 : tie.Need-returns-3 invariant-loop decreases-loop
+returns-3 : tie.Need-returns invariant-loop decreases-loop
 returns-3 c =
-    let l = c.before in
-    let s = l.before.before.args in
-    ap row_of (added-all plus s.acc s.k s.x (terms_of s.t4) s.steps l.loop.j l.loop.count l.loop.out (omega arith) l.loop.invariant.6)
+    let l = c in
+    let s = l.args in
+    ap row_of (added-all plus s.acc s.k s.x (terms_of s.b) s.steps l.loop-j.j l.loop-j.count l.loop-j.out (omega arith) l.loop-j.invariant.6)
 
-pub add-row-spec : {M : Type 1} → statement M
-add-row-spec =
+pub add_row_spec : {M : Type 1} → statement M
+add_row_spec =
     tie.close
     (tie.spec
     invariant-loop

@@ -3,17 +3,17 @@ use borrow.Author.Rules.{rules}
 use Rattle.terms.proofs.combine.Statement.{statement}
 use Rattle.terms.proofs.combine.Tie as tie
 
-checked-sub-requires : tie.Need-checked-sub-requires
+checked-sub-requires : tie.Need-checked_sub-requires
 checked-sub-requires c κs = search rules
 
-checked-add-requires : tie.Need-checked-add-requires
+checked-add-requires : tie.Need-checked_add-requires
 checked-add-requires c κs = search rules
 
-returns : tie.Need-returns
-returns c = rw c.before.if1.true c.checked-sub.ensures.0
+returns : tie.Need-returns-then-subtract
+returns c = rw c.if-subtract.true c.checked_sub.ensures.0
 
-returns-2 : tie.Need-returns-2
-returns-2 c = rw c.before.if1.false c.checked-add.ensures.0
+returns-2 : tie.Need-returns-else-subtract
+returns-2 c = rw c.if-subtract.false c.checked_add.ensures.0
 
-pub combine-spec : {M : Type 1} → statement M
-combine-spec = tie.close (tie.spec checked-sub-requires checked-add-requires returns returns-2)
+pub combine_spec : {M : Type 1} → statement M
+combine_spec = tie.close (tie.spec checked-sub-requires checked-add-requires returns returns-2)

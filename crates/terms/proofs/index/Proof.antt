@@ -7,11 +7,11 @@ use borrow.Author.Rules.{rules}
 use Rattle.terms.proofs.index.Statement.{statement}
 use Rattle.terms.proofs.index.Tie as tie
 
-cast-t2 : tie.Need-overflow-cast-t2
+cast-t2 : tie.Need-overflow_cast-result
 cast-t2 c = search rules
 
 returns : tie.Need-returns
 returns c = ap whole_r (size_back c.args.i (omega arith))
 
-pub index-spec : {M : Type 1} → statement M
-index-spec = tie.close (tie.spec cast-t2 returns)
+pub index_spec : {M : Type 1} → statement M
+index_spec = tie.close (tie.spec cast-t2 returns)

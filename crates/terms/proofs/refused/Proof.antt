@@ -11,7 +11,7 @@ zero-requires : tie.Need-zero-requires
 zero-requires c κs = search rules
 
 returns : tie.Need-returns
-returns c = ap {B = Answer} (λ (p : Poly). record { outcome = Refused c.before.args.why; poly = p; steps = c.before.args.steps }) c.zero.ensures
+returns c = ap {B = Answer} (λ (p : Poly). record { outcome = Refused c.args.why; poly = p; steps = c.args.steps }) c.zero.ensures
 
-pub refused-spec : {M : Type 1} → statement M
-refused-spec = tie.close (tie.spec zero-requires returns)
+pub refused_spec : {M : Type 1} → statement M
+refused_spec = tie.close (tie.spec zero-requires returns)

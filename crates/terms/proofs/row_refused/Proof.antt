@@ -12,7 +12,7 @@ nil-requires : tie.Need-nil-requires
 nil-requires c κs = search rules
 
 returns : tie.Need-returns
-returns c = ap {B = Row} (λ (z : Ratio). record { fine = false; acc = replicate 32 z; steps = c.before.args.steps }) c.nil.ensures
+returns c = ap {B = Row} (λ (z : Ratio). record { fine = false; acc = replicate 32 z; steps = c.args.steps }) c.nil.ensures
 
-pub row-refused-spec : {M : Type 1} → statement M
-row-refused-spec = tie.close (tie.spec nil-requires returns)
+pub row_refused_spec : {M : Type 1} → statement M
+row_refused_spec = tie.close (tie.spec nil-requires returns)

@@ -7,14 +7,14 @@ use Rattle.terms.proofs.Lists.{long}
 use Rattle.terms.proofs.Poly.length.Statement.{statement}
 use Rattle.terms.proofs.Poly.length.Tie as tie
 
-returns : tie.Need-returns
+returns : tie.Need-returns-then-n-lt32
 returns c =
-    let e : length c.before.args.self.coeffs ≡ 32 = search (rules, long) in
+    let e : length c.args.self.coeffs ≡ 32 = search (rules, long) in
     rw length-take (omega arith)
 
-returns-2 : tie.Need-returns-2
+returns-2 : tie.Need-returns-else-n-lt32
 returns-2 c =
-    let e : length c.before.args.self.coeffs ≡ 32 = search (rules, long) in
+    let e : length c.args.self.coeffs ≡ 32 = search (rules, long) in
     rw length-take (omega arith)
 
 pub length_spec : {M : Type 1} → statement M

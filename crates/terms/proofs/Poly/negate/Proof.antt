@@ -21,110 +21,110 @@ use Rattle.terms.proofs.Poly.negate.Tie as tie
 abbrev turn : Poly → ℕ → Step
 turn self i = neg_of (get_or (terms_of self) i zero_r)
 
-abbrev invariant-loop : tie.invariant-loop
+abbrev invariant-loop : tie.invariant-loop-i
 invariant-loop self n nums₀ dens₀ i₀ nums dens i =
     (n ≡ length (terms_of self)) × (n ≤ 32) × (i ≤ n) × (length nums ≡ 32) × (length dens ≡ 32) × Uncounted (turn self) (length (terms_of self)) i (pairs nums dens)
 
-abbrev decreases-loop : tie.decreases-loop
+abbrev decreases-loop : tie.decreases-loop-i
 decreases-loop self n nums₀ dens₀ i₀ nums dens i = n - i
 
-length-requires : tie.Need-length-requires invariant-loop decreases-loop
+length-requires : tie.Need-length-n-requires invariant-loop decreases-loop
 length-requires c κs = tt
 
-loop-holds : tie.Need-loop-init invariant-loop decreases-loop
+loop-holds : tie.Need-loop-i-init invariant-loop decreases-loop
 loop-holds c =
-    let s = c.before.args in
-    let e : length s.t1.coeffs ≡ 32 = search (rules, long) in
-    let k : c.length.result ≤ 32 = omega (arith, c.length.ensures, within-32 s.t1.len s.t1.coeffs e) in
-    (c.length.ensures, k, omega arith, refl, refl, uncounted-none (turn s.t1) _ _)
+    let s = c.args in
+    let e : length s.self.coeffs ≡ 32 = search (rules, long) in
+    let k : c.length-n.result ≤ 32 = omega (arith, c.length-n.ensures, within-32 s.self.len s.self.coeffs e) in
+    (c.length-n.ensures, k, omega arith, refl, refl, uncounted-none (turn s.self) _ _)
 
-mul-x : tie.Need-overflow-mul-x invariant-loop decreases-loop
+mul-x : tie.Need-offset_bounds-self-i invariant-loop decreases-loop
 mul-x c = omega arith
 
-element-copy-out-x : tie.Need-element-copy-out-x invariant-loop decreases-loop
+element-copy-out-x : tie.Need-bounds-self-i invariant-loop decreases-loop
 element-copy-out-x c = omega arith
 
-checked-neg-requires : tie.Need-checked-neg-requires invariant-loop decreases-loop
+checked-neg-requires : tie.Need-checked_neg-requires invariant-loop decreases-loop
 checked-neg-requires c κs = tt
 
-step : (c : tie.After-checked-neg invariant-loop decreases-loop) → turn c.before.before.before.before.before.args.t1 c.before.before.before.loop.i ≡ c.checked-neg.result
+step : (c : tie.After-checked_neg invariant-loop decreases-loop) → turn c.args.self c.loop-i.i ≡ c.checked_neg.result
 step c =
-    let l = c.before.before.before in
-    let s = l.before.before.args in
-    sym (rw (read-terms s.t1.len s.t1.coeffs l.loop.i past zero_r (omega arith)) at c.checked-neg.ensures.0)
+    let l = c in
+    let s = l.args in
+    sym (rw (read-terms s.self.len s.self.coeffs l.loop-i.i past zero_r (omega arith)) at c.checked_neg.ensures.0)
 
-enum-known-y : tie.Need-enum-known-y invariant-loop decreases-loop
+enum-known-y : tie.Need-enum_known-y invariant-loop decreases-loop
 enum-known-y c = search rules
 
-enum_told : tie.Need-enum-told invariant-loop decreases-loop
+enum_told : tie.Need-enum_told-1 invariant-loop decreases-loop
 enum_told c = search rules
 
 refused-requires : tie.Need-refused-requires invariant-loop decreases-loop
 refused-requires c κs = tt
 
-returns : tie.Need-returns invariant-loop decreases-loop
+returns : tie.Need-returns-in_default invariant-loop decreases-loop
 unfolding negated_of
 returns c =
-    let m = c.before.before.before in
-    let l = m.before.before.before in
-    let s = l.before.before.args in
-    c.refused.ensures ∙ uncounted-over (turn s.t1) (length (terms_of s.t1)) l.loop.i (pairs l.loop.nums l.loop.dens) _ (omega arith) (step m ∙ c.before.enum_told.given.1) l.loop.invariant.5
+    let m = c in
+    let l = m in
+    let s = l.args in
+    c.refused.ensures ∙ uncounted-over (turn s.self) (length (terms_of s.self)) l.loop-i.i (pairs l.loop-i.nums l.loop-i.dens) _ (omega arith) (step m.before.before ∙ c.in_default.is) l.loop-i.invariant.5
 
-mul-nums : tie.Need-overflow-mul-nums invariant-loop decreases-loop
+mul-nums : tie.Need-offset_bounds-nums-i invariant-loop decreases-loop
 mul-nums c = omega arith
 
-array-set-from-nums : tie.Need-array-set-from-nums invariant-loop decreases-loop
+array-set-from-nums : tie.Need-bounds-nums-i invariant-loop decreases-loop
 array-set-from-nums c = omega arith
 
-mul-dens : tie.Need-overflow-mul-dens invariant-loop decreases-loop
+mul-dens : tie.Need-offset_bounds-dens-i invariant-loop decreases-loop
 mul-dens c = omega arith
 
-array-set-from-dens : tie.Need-array-set-from-dens invariant-loop decreases-loop
+array-set-from-dens : tie.Need-bounds-dens-i invariant-loop decreases-loop
 array-set-from-dens c = omega arith
 
-add-i : tie.Need-overflow-add-i invariant-loop decreases-loop
+add-i : tie.Need-overflow_add-i invariant-loop decreases-loop
 add-i c = omega arith
 
-loop-less : tie.Need-loop-smaller invariant-loop decreases-loop
+loop-less : tie.Need-loop-i-smaller invariant-loop decreases-loop
 loop-less c = omega arith
 
-loop-again : tie.Need-loop-preserved invariant-loop decreases-loop
+loop-again : tie.Need-loop-i-preserved invariant-loop decreases-loop
 loop-again c =
-    let k = c.before.before.before in
-    let m = k.before.before in
-    let l = m.before.before.before in
-    let s = l.before.before.args in
-    let inv = l.loop.invariant in (
+    let k = c in
+    let m = k in
+    let l = m in
+    let s = l.args in
+    let inv = l.loop-i.invariant in (
       inv.0,
       inv.1,
       omega arith,
-      length-set l.loop.nums l.loop.i _ ∙ inv.3,
-      length-set l.loop.dens l.loop.i _ ∙ inv.4,
-      pairs-write l.loop.nums l.loop.dens inv.3 inv.4 (Uncounted (turn s.t1) (length (terms_of s.t1)) (l.loop.i + 1)) l.loop.i k.y.given.0.0 (record { sfits = c.before.struct_told.given.0.1 }) (record { sfits = c.struct-told2.given.1.0.1 })
-          (uncounted-more (turn s.t1) (length (terms_of s.t1)) l.loop.i (pairs l.loop.nums l.loop.dens) _ (omega arith) (omega (arith, pairs-32 l.loop.nums l.loop.dens inv.3 inv.4)) (step m ∙ k.y.given.1) inv.5),
+      length-set l.loop-i.nums l.loop-i.i _ ∙ inv.3,
+      length-set l.loop-i.dens l.loop-i.i _ ∙ inv.4,
+      pairs-write l.loop-i.nums l.loop-i.dens inv.3 inv.4 (Uncounted (turn s.self) (length (terms_of s.self)) (l.loop-i.i + 1)) l.loop-i.i k.in-Done.y (record { sfits = c.struct_told-1.given.0.1 }) (record { sfits = c.struct_told-in-loop-i-1.given.1.0.1 })
+          (uncounted-more (turn s.self) (length (terms_of s.self)) l.loop-i.i (pairs l.loop-i.nums l.loop-i.dens) _ (omega arith) (omega (arith, pairs-32 l.loop-i.nums l.loop-i.dens inv.3 inv.4)) (step m.before.before.before ∙ k.in-Done.is) inv.5),
     )
 
-slice-aggregate-joined : tie.Need-slice-aggregate-joined invariant-loop decreases-loop
+slice-aggregate-joined : tie.Need-slice_bounds-joined-end invariant-loop decreases-loop
 slice-aggregate-joined c = search rules
 
-slice-aggregate-joined-2 : tie.Need-slice-aggregate-joined-2 invariant-loop decreases-loop
+slice-aggregate-joined-2 : tie.Need-slice_bounds-joined-end-2 invariant-loop decreases-loop
 slice-aggregate-joined-2 c = search rules
 
 joined-requires : tie.Need-joined-requires invariant-loop decreases-loop
-joined-requires c κs = let l = c.before.before.before in (l.loop.invariant.3, l.loop.invariant.4, omega arith)
+joined-requires c κs = let l = c in (l.loop-i.invariant.3, l.loop-i.invariant.4, omega arith)
 
 done-requires : tie.Need-done-requires invariant-loop decreases-loop
 done-requires c κs = tt
 
-returns-2 : tie.Need-returns-2 invariant-loop decreases-loop
+returns-2 : tie.Need-returns invariant-loop decreases-loop
 unfolding negated_of
 returns-2 c =
-    let l = c.before.before.before.before.before in
-    let s = l.before.before.args in
-    c.done.ensures ∙ ap (λ (p : Poly). done_with p 0) c.before.joined.ensures ∙ uncounted-all (turn s.t1) (length (terms_of s.t1)) l.loop.i _ (pairs l.loop.nums l.loop.dens) l.loop.invariant.0 (omega arith) (omega arith) l.loop.invariant.5
+    let l = c in
+    let s = l.args in
+    c.done.ensures ∙ ap (λ (p : Poly). done_with p 0) c.joined.ensures ∙ uncounted-all (turn s.self) (length (terms_of s.self)) l.loop-i.i _ (pairs l.loop-i.nums l.loop-i.dens) l.loop-i.invariant.0 (omega arith) (omega arith) l.loop-i.invariant.5
 
-pub negate-spec : {M : Type 1} → statement M
-negate-spec =
+pub negate_spec : {M : Type 1} → statement M
+negate_spec =
     tie.close
     (tie.spec
     invariant-loop

@@ -11,10 +11,10 @@ use Rattle.terms.proofs.Product.{none_left, none_right, product-long}
 use Rattle.terms.proofs.Poly.times.Statement.{statement}
 use Rattle.terms.proofs.Poly.times.Tie as tie
 
-length-requires : tie.Need-length-requires
+length-requires : tie.Need-length-n-requires
 length-requires c κs = tt
 
-length-requires-2 : tie.Need-length-requires-2
+length-requires-2 : tie.Need-length-m-requires
 length-requires-2 c κs = tt
 
 zero-requires : tie.Need-zero-requires
@@ -23,51 +23,51 @@ zero-requires c κs = tt
 done-requires : tie.Need-done-requires
 done-requires c κs = tt
 
-returns : tie.Need-returns
+returns : tie.Need-returns-then-n-eq0
 returns c =
-    let l = c.before.before.before in
-    let s = l.before.before.args in
-    c.done.ensures ∙ ap (λ (p : Poly). done_with p 0) c.before.zero.ensures ∙ none_left (terms_of s.self) (terms_of s.other) (omega (arith, l.before.length.ensures))
+    let l = c in
+    let s = l.args in
+    c.done.ensures ∙ ap (λ (p : Poly). done_with p 0) c.zero.ensures ∙ none_left (terms_of s.self) (terms_of s.other) (omega (arith, l.length-n.ensures))
 
-zero-requires-2 : tie.Need-zero-requires-2
+zero-requires-2 : tie.Need-zero-requires-then-m-eq0
 zero-requires-2 c κs = tt
 
-done-requires-2 : tie.Need-done-requires-2
+done-requires-2 : tie.Need-done-requires-then-m-eq0
 done-requires-2 c κs = tt
 
-returns-2 : tie.Need-returns-2
+returns-2 : tie.Need-returns-then-m-eq0
 returns-2 c =
-    let l = c.before.before.before.before in
-    let s = l.before.before.args in
-    c.done2.ensures ∙ ap (λ (p : Poly). done_with p 0) c.before.zero2.ensures ∙ none_right (terms_of s.self) (terms_of s.other) (omega (arith, l.length2.ensures))
+    let l = c in
+    let s = l.args in
+    c.done-then-m-eq0.ensures ∙ ap (λ (p : Poly). done_with p 0) c.zero-then-m-eq0.ensures ∙ none_right (terms_of s.self) (terms_of s.other) (omega (arith, l.length-m.ensures))
 
-add-if3 : tie.Need-overflow-add-if3
+add-if3 : tie.Need-overflow_add-n
 add-if3 c =
-    let l = c.before.before in
-    let s = l.before.before.args in
+    let l = c in
+    let s = l.args in
     let e : length s.self.coeffs ≡ 32 = search (rules, long) in
     let f : length s.other.coeffs ≡ 32 = search (rules, long) in
-    omega (arith, l.before.length.ensures, l.length2.ensures, within-32 s.self.len s.self.coeffs e, within-32 s.other.len s.other.coeffs f)
+    omega (arith, l.length-n.ensures, l.length-m.ensures, within-32 s.self.len s.self.coeffs e, within-32 s.other.len s.other.coeffs f)
 
 refused-requires : tie.Need-refused-requires
 refused-requires c κs = tt
 
-returns-3 : tie.Need-returns-3
+returns-3 : tie.Need-returns-then-n-m-gt33
 returns-3 c =
-    let l = c.before.before.before.before in
-    let s = l.before.before.args in
-    c.refused.ensures ∙ product-long (terms_of s.self) (terms_of s.other) (omega (arith, l.before.length.ensures)) (omega (arith, l.length2.ensures)) (omega (arith, l.before.length.ensures, l.length2.ensures))
+    let l = c in
+    let s = l.args in
+    c.refused.ensures ∙ product-long (terms_of s.self) (terms_of s.other) (omega (arith, l.length-n.ensures)) (omega (arith, l.length-m.ensures)) (omega (arith, l.length-n.ensures, l.length-m.ensures))
 
 rows-requires : tie.Need-rows-requires
 rows-requires c κs =
-    let l = c.before.before.before in
-    (l.before.length.ensures, l.length2.ensures, omega arith, omega arith, omega arith)
+    let l = c in
+    (l.length-n.ensures, l.length-m.ensures, omega arith, omega arith, omega arith)
 
-returns-4 : tie.Need-returns-4
+returns-4 : tie.Need-returns
 returns-4 c = c.rows.ensures
 
-pub times-spec : {M : Type 1} → statement M
-times-spec =
+pub times_spec : {M : Type 1} → statement M
+times_spec =
     tie.close
     (tie.spec
     length-requires

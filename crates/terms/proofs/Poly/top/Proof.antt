@@ -10,59 +10,59 @@ use Rattle.terms.proofs.Lists.{long, past, take-terms, top-less, top-here, top-n
 use Rattle.terms.proofs.Poly.top.Statement.{statement}
 use Rattle.terms.proofs.Poly.top.Tie as tie
 
-abbrev invariant-loop : tie.invariant-loop
+abbrev invariant-loop : tie.invariant-loop-n
 invariant-loop self n₀ n =
     (n ≤ 32) × (length self.coeffs ≡ 32) × (length (trim (take n self.coeffs)) ≡ length (trim (terms_of self)))
 
-abbrev decreases-loop : tie.decreases-loop
+abbrev decreases-loop : tie.decreases-loop-n
 decreases-loop self n₀ n = n
 
-length-requires : tie.Need-length-requires invariant-loop decreases-loop
+length-requires : tie.Need-length-n-requires invariant-loop decreases-loop
 length-requires c κs = tt
 
-loop-holds : tie.Need-loop-init invariant-loop decreases-loop
+loop-holds : tie.Need-loop-n-init invariant-loop decreases-loop
 loop-holds c =
-    let s = c.before.args.t1 in
+    let s = c.args.self in
     let e : length s.coeffs ≡ 32 = search (rules, long) in
-    let k : c.length.result ≡ Prim.Native.Nat.min s.len (length s.coeffs) = c.length.ensures ∙ length-take s.len s.coeffs in
-    (omega arith, e, ap (λ (l : mathlib.Core.List.List _). length (trim l)) (take-terms s.len s.coeffs c.length.result c.length.ensures))
+    let k : c.length-n.result ≡ Prim.Native.Nat.min s.len (length s.coeffs) = c.length-n.ensures ∙ length-take s.len s.coeffs in
+    (omega arith, e, ap (λ (l : mathlib.Core.List.List _). length (trim l)) (take-terms s.len s.coeffs c.length-n.result c.length-n.ensures))
 
-sub-c : tie.Need-overflow-sub-c invariant-loop decreases-loop
+sub-c : tie.Need-overflow_sub-c invariant-loop decreases-loop
 sub-c c = omega arith
 
-mul-c : tie.Need-overflow-mul-c invariant-loop decreases-loop
+mul-c : tie.Need-offset_bounds-self-n invariant-loop decreases-loop
 mul-c c = omega arith
 
-element-copy-out-c : tie.Need-element-copy-out-c invariant-loop decreases-loop
+element-copy-out-c : tie.Need-bounds-self-n invariant-loop decreases-loop
 element-copy-out-c c = omega arith
 
-returns : tie.Need-returns invariant-loop decreases-loop
+returns : tie.Need-returns-then-c-ne0 invariant-loop decreases-loop
 returns c =
-    let l = c.before.before.before.before.before in
-    let cs = l.before.before.args.t1.coeffs in
-    let g = c.before.struct_told.given in
-    sym (top-here cs l.loop.n past (omega arith) (omega arith) (some_bits (get_or cs (l.loop.n - 1) past).num (record { sfits = g.0.1 }) c.if1.true)) ∙ l.loop.invariant.2
+    let l = c in
+    let cs = l.args.self.coeffs in
+    let g = c.struct_told-1.given in
+    sym (top-here cs l.loop-n.n past (omega arith) (omega arith) (some_bits (get_or cs (l.loop-n.n - 1) past).num (record { sfits = g.0.1 }) c.if-c-ne0.true)) ∙ l.loop-n.invariant.2
 
-sub-n : tie.Need-overflow-sub-n invariant-loop decreases-loop
+sub-n : tie.Need-overflow_sub-n invariant-loop decreases-loop
 sub-n c = omega arith
 
-loop-less : tie.Need-loop-smaller invariant-loop decreases-loop
+loop-less : tie.Need-loop-n-smaller invariant-loop decreases-loop
 loop-less c = omega arith
 
-loop-again : tie.Need-loop-preserved invariant-loop decreases-loop
+loop-again : tie.Need-loop-n-preserved invariant-loop decreases-loop
 loop-again c =
-    let l = c.before.before.before.before.before in
-    let cs = l.before.before.args.t1.coeffs in
-    let g = c.before.struct_told.given in
-    (omega arith, l.loop.invariant.1, ap length (sym (top-less cs l.loop.n past (omega arith) (omega arith) (nil-bits (get_or cs (l.loop.n - 1) past).num (record { sfits = g.0.1 }) c.if1.false))) ∙ l.loop.invariant.2)
+    let l = c in
+    let cs = l.args.self.coeffs in
+    let g = c.struct_told-1.given in
+    (omega arith, l.loop-n.invariant.1, ap length (sym (top-less cs l.loop-n.n past (omega arith) (omega arith) (nil-bits (get_or cs (l.loop-n.n - 1) past).num (record { sfits = g.0.1 }) c.if-c-ne0.false))) ∙ l.loop-n.invariant.2)
 
-returns-2 : tie.Need-returns-2 invariant-loop decreases-loop
+returns-2 : tie.Need-returns invariant-loop decreases-loop
 returns-2 c =
-    let l = c.before in
-    top-none l.before.before.args.t1.coeffs l.loop.n (omega arith) ∙ l.loop.invariant.2
+    let l = c in
+    top-none l.args.self.coeffs l.loop-n.n (omega arith) ∙ l.loop-n.invariant.2
 
-pub top-spec : {M : Type 1} → statement M
-top-spec =
+pub top_spec : {M : Type 1} → statement M
+top_spec =
     tie.close
     (tie.spec
     invariant-loop

@@ -13,5 +13,5 @@ nil-requires c κs = search rules
 returns : tie.Need-returns
 returns c = ap {B = Poly} (λ (z : Ratio). record { coeffs = replicate 32 z; len = 0 }) c.nil.ensures
 
-pub zero-spec : {M : Type 1} → statement M
-zero-spec = tie.close (tie.spec nil-requires returns)
+pub zero_spec : {M : Type 1} → statement M
+zero_spec = tie.close (tie.spec nil-requires returns)
