@@ -55,7 +55,7 @@ module _ {W W' Log Log' : Type 0} (R : Relation W W' Log Log') {M : Machine W Lo
   quotients-related (suc k) q h b t =
       outcome-then R K (K.make times q (term-related h b k) (K.inverse (lead-related b))) (λ w₁ l₁ n₁ x y p₁ q₁ e.
       outcome-then R K (rowed-related R K minus k q₁ (lists-still R K p₁ h) e (lists-still R K p₁ b)) (λ w₂ l₂ n₂ r r' p₂ q₂ g.
-      let p = K.Later-trans p₁ p₂ in
+      let p = K.later_trans p₁ p₂ in
       quotients-related k q₂ g (lists-still R K p b) (more (K.still p₂ e) (lists-still R K p t))))
 
   module _ {w : R.Known} {l : Log} {n : Log'} (q : R.Logs w l n) where
@@ -111,7 +111,7 @@ module _ {W W' Log Log' : Type 0} (R : Relation W W' Log Log') {M : Machine W Lo
   square_free-related z q (more x f) =
       outcome-then R K (derived-related R K q z (more x f)) (λ w₁ l₁ n₁ d d' p₁ q₁ e.
       outcome-then R K (gcd_of-related q₁ (lists-still R K p₁ (more x f)) (dropped-related e)) (λ w₂ l₂ n₂ g g' p₂ q₂ h.
-      freed-related q₂ (lists-still R K (K.Later-trans p₁ p₂) (more x f)) (dropped-related h)))
+      freed-related q₂ (lists-still R K (K.later_trans p₁ p₂) (more x f)) (dropped-related h)))
 
   -- ---- the resultant
 
@@ -130,7 +130,7 @@ module _ {W W' Log Log' : Type 0} (R : Relation W W' Log Log') {M : Machine W Lo
     onward-related h g i (more r t) =
         outcome-then R K (power-related (ap₂ (λ (x y : ℕ). x - suc y) (same_length h) (same_length t)) (lead-related g)) (λ w₁ l₁ n₁ x y p₁ q₁ e.
         outcome-then R K (i w₁ l₁ n₁ p₁ q₁) (λ w₂ l₂ n₂ s s' p₂ q₂ f.
-        let p = K.Later-trans p₁ p₂ in
+        let p = K.later_trans p₁ p₂ in
         outcome-then R K (K.make times q₂ (signed-related (lists-still R K p h) (lists-still R K p g)) (K.still p₂ e)) (λ w₃ l₃ n₃ u v p₃ q₃ d.
         K.make times q₃ d (K.still p₃ f))))
 
@@ -181,5 +181,5 @@ module _ {W W' Log Log' : Type 0} (R : Relation W W' Log Log') {M : Machine W Lo
       outcome-then R K (derived-related R K q z (more x (more y f))) (λ w₁ l₁ n₁ d d' p₁ q₁ e.
       outcome-then R K (resultant_of-related q₁ (lists-still R K p₁ (more x (more y f))) (dropped-related e)) (λ w₂ l₂ n₂ r r' p₂ q₂ g.
       outcome-then R K (K.make times q₂ (half-related (same_length f) w₂) g) (λ w₃ l₃ n₃ u v p₃ q₃ h.
-      let p = K.Later-trans (K.Later-trans p₁ p₂) p₃ in
+      let p = K.later_trans (K.later_trans p₁ p₂) p₃ in
       K.make times q₃ h (K.inverse (lead-related (lists-still R K p (more x (more y f))))))))

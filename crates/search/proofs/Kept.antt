@@ -44,6 +44,7 @@ all_from [] d h = none
 all_from (a ∷ l) d h = each (h 0 (omega arith)) (all_from l d (λ i k. h (suc i) (omega arith)))
 
 pub has-at : {W : Type 0} {P : W → Type 0} (l : List W) (d : W) → Has P l → (i : ℕ) × (i < length l) × P (get_or l i d)
+has-at {W = W} {P = P} [] d x' = elim x' [ ]
 has-at (a ∷ l) d (here p) = (0, omega arith, p)
 has-at (a ∷ l) d (there h) = let (i, k, p) = has-at l d h in (suc i, omega arith, p)
 

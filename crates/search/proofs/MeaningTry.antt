@@ -135,6 +135,7 @@ module _ (l : List Ratio) (Root : Ratio → Type 0) (sound : (x : Ratio) → IsR
   module _ (p q : ℤ) (x : Ratio) (z : is_nil q ≡ false) (d : new_of p q ≡ Done x) (r : IsRoot (rats l) (rat x)) (P : Ratio → Type 0) (h : P x) where
     row-gets : (qs : List ℤ) → Has (λ y. q ≡ y) qs → (c c' : Count) (kept kept' : List Ratio) → Good Root kept → try_row l p qs c kept ≡ fine c' kept' → Has P kept'
     unfolding try_row
+    row-gets [] x4 c c' kept kept' g e = elim x4 [ ]
     row-gets (y ∷ qs) (here i) c c' kept kept' g e =
         let e' : and_then (try_one l p q c kept) (λ c kept. try_row l p qs c kept) ≡ fine c' kept' = ap (λ y. and_then (try_one l p y c kept) (λ c kept. try_row l p qs c kept)) i ∙ e in
         let a = both-answered (try_one l p q c kept) _ c' kept' e' in
@@ -147,6 +148,7 @@ module _ (l : List Ratio) (Root : Ratio → Type 0) (sound : (x : Ratio) → IsR
 
     pub all-gets : (ps qs : List ℤ) → Has (λ y. p ≡ y) ps → Has (λ y. q ≡ y) qs → (c c' : Count) (kept kept' : List Ratio) → Good Root kept → try_all l ps qs c kept ≡ fine c' kept' → Has P kept'
     unfolding try_all
+    all-gets [] qs x5 j c c' kept kept' g e = elim x5 [ ]
     all-gets (y ∷ ps) qs (here i) j c c' kept kept' g e =
         let e' : and_then (try_row l p qs c kept) (λ c kept. try_all l ps qs c kept) ≡ fine c' kept' = ap (λ y. and_then (try_row l y qs c kept) (λ c kept. try_all l ps qs c kept)) i ∙ e in
         let a = both-answered (try_row l p qs c kept) _ c' kept' e' in

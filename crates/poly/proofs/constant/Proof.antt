@@ -11,16 +11,16 @@ use borrow.Author.Rules.{rules}
 use Rattle.poly.proofs.constant.Statement.{statement}
 use Rattle.poly.proofs.constant.Tie as tie
 
-door-of-ratio-requires : tie.Need-door-of-ratio-requires
+door-of-ratio-requires : tie.Need-door_of_ratio-d-requires
 door-of-ratio-requires c κs = tt
 
-enum_told : tie.Need-enum-told
-enum_told c = c.match.keys1
+enum_told : tie.Need-enum_told-1
+enum_told c = c.in-Open-1.keys1
 
-zero-requires : tie.Need-zero-requires
+zero-requires : tie.Need-zero-p-requires
 zero-requires c κs = tt
 
-element-set-from-c : tie.Need-element-set-from-c
+element-set-from-c : tie.Need-bounds-p-0
 element-set-from-c c = search rules
 
 normalise-requires : tie.Need-normalise-requires
@@ -35,26 +35,26 @@ reason-requires c κs = tt
 refused-requires : tie.Need-refused-requires
 refused-requires c κs = tt
 
-returns : tie.Need-returns
+returns : tie.Need-returns-in-Open
 returns c =
-    let z = c.before.before in
-    let g = z.before.before.before in
-    let x = g.before.args.c in
+    let z = c in
+    let g = z in
+    let x = g.args.c in
     with-gives c.done.result (constant_of x) (constant-gives x)
-    (open-answer g.door-of-ratio.result _ g.door-of-ratio.ensures z.before.enum_told.given.1 _ c.done.result
+    (open-answer g.door_of_ratio-d.result _ g.door_of_ratio-d.ensures z.in-Open.is _ c.done.result
     (c.done.ensures
-    ∙ ap (λ (p : Poly). done_with p 0) (c.before.normalise.ensures ∙ ap (λ (p : Poly). poly_of (trim (take 1 (set p.coeffs 0 x)))) z.zero.ensures)))
+    ∙ ap (λ (p : Poly). done_with p 0) (c.normalise.ensures ∙ ap (λ (p : Poly). poly_of (trim (take 1 (set p.coeffs 0 x)))) z.zero-p.ensures)))
 
-returns-2 : tie.Need-returns-2
+returns-2 : tie.Need-returns-in_default
 returns-2 c =
-    let w = c.before in
-    let g = w.before.before in
-    let x = g.before.args.c in
+    let w = c in
+    let g = w in
+    let x = g.args.c in
     with-gives c.refused.result (constant_of x) (constant-gives x)
-    (shut-answer g.door-of-ratio.result _ g.door-of-ratio.ensures w.before.match.keys2 w.reason.result w.reason.ensures _ c.refused.result c.refused.ensures)
+    (shut-answer g.door_of_ratio-d.result _ g.door_of_ratio-d.ensures w.in_default.in_default-own.keys2 w.reason.result w.reason.ensures _ c.refused.result c.refused.ensures)
 
-pub constant-spec : {M : Type 1} → statement M
-constant-spec =
+pub constant_spec : {M : Type 1} → statement M
+constant_spec =
     tie.close
     (tie.spec
     door-of-ratio-requires

@@ -5,11 +5,11 @@ use Rattle.poly.proofs.Gives.{with-gives, diff-gives}
 use Rattle.poly.proofs.diff.Statement.{statement}
 use Rattle.poly.proofs.diff.Tie as tie
 
-door-requires : tie.Need-door-requires
+door-requires : tie.Need-door-d-requires
 door-requires c κs = tt
 
-enum_told : tie.Need-enum-told
-enum_told c = c.match.keys1
+enum_told : tie.Need-enum_told-1
+enum_told c = c.in-Open-1.keys1
 
 differentiate-requires : tie.Need-differentiate-requires
 differentiate-requires c κs = tt
@@ -20,21 +20,21 @@ reason-requires c κs = tt
 refused-requires : tie.Need-refused-requires
 refused-requires c κs = tt
 
-returns : tie.Need-returns
+returns : tie.Need-returns-in-Open
 returns c =
-    let g = c.before.before.before in
-    with-gives c.differentiate.result (diff_of g.before.args.p) (diff-gives g.before.args.p)
-    (open-answer g.door.result _ g.door.ensures c.before.enum_told.given.1 _ c.differentiate.result c.differentiate.ensures)
+    let g = c in
+    with-gives c.differentiate.result (diff_of g.args.p) (diff-gives g.args.p)
+    (open-answer g.door-d.result _ g.door-d.ensures c.in-Open.is _ c.differentiate.result c.differentiate.ensures)
 
-returns-2 : tie.Need-returns-2
+returns-2 : tie.Need-returns-in_default
 returns-2 c =
-    let w = c.before in
-    let g = w.before.before in
-    with-gives c.refused.result (diff_of g.before.args.p) (diff-gives g.before.args.p)
-    (shut-answer g.door.result _ g.door.ensures w.before.match.keys2 w.reason.result w.reason.ensures _ c.refused.result c.refused.ensures)
+    let w = c in
+    let g = w in
+    with-gives c.refused.result (diff_of g.args.p) (diff-gives g.args.p)
+    (shut-answer g.door-d.result _ g.door-d.ensures w.in_default.in_default-own.keys2 w.reason.result w.reason.ensures _ c.refused.result c.refused.ensures)
 
-pub diff-spec : {M : Type 1} → statement M
-diff-spec =
+pub diff_spec : {M : Type 1} → statement M
+diff_spec =
     tie.close
     (tie.spec
     door-requires

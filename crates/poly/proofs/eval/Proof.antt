@@ -10,40 +10,40 @@ use Rattle.poly.proofs.eval.Tie as tie
 door-requires : tie.Need-door-requires
 door-requires c κs = tt
 
-door-of-ratio-requires : tie.Need-door-of-ratio-requires
+door-of-ratio-requires : tie.Need-door_of_ratio-requires
 door-of-ratio-requires c κs = tt
 
-both-requires : tie.Need-both-requires
+both-requires : tie.Need-both-d-requires
 both-requires c κs = tt
 
-enum_told : tie.Need-enum-told
-enum_told c = c.match.keys1
+enum_told : tie.Need-enum_told-1
+enum_told c = c.in-Open-1.keys1
 
-value-at-requires : tie.Need-value-at-requires
+value-at-requires : tie.Need-value_at-requires
 value-at-requires c κs = tt
 
 reason-requires : tie.Need-reason-requires
 reason-requires c κs = tt
 
-gate : (c : tie.After-both) → c.both.result ≡ both (door_of c.before.before.before.args.p) (door_of_ratio c.before.before.before.args.x)
-gate c = c.both.ensures ∙ ap₂ both c.before.before.door.ensures c.before.door-of-ratio.ensures
+gate : (c : tie.After-both-d) → c.both-d.result ≡ both (door_of c.args.p) (door_of_ratio c.args.x)
+gate c = c.both-d.ensures ∙ ap₂ both c.door.ensures c.door_of_ratio.ensures
 
-returns : tie.Need-returns
+returns : tie.Need-returns-in-Open
 returns c =
-    let g = c.before.before.before in
-    let s = g.before.before.before.args in
-    with_value c.value-at.result (eval_of s.p s.x) (eval-gives s.p s.x)
-    (open_step g.both.result _ (gate g) c.before.enum_told.given.1 _ c.value-at.result c.value-at.ensures)
+    let g = c in
+    let s = g.args in
+    with_value c.value_at.result (eval_of s.p s.x) (eval-gives s.p s.x)
+    (open_step g.both-d.result _ (gate g.before.before) c.in-Open.is _ c.value_at.result c.value_at.ensures)
 
-returns-2 : tie.Need-returns-2
+returns-2 : tie.Need-returns-in_default
 returns-2 c =
-    let g = c.before.before in
-    let s = g.before.before.before.args in
+    let g = c in
+    let s = g.args in
     with_value _ (eval_of s.p s.x) (eval-gives s.p s.x)
-    (shut-step g.both.result _ (gate g) c.before.match.keys2 c.reason.result c.reason.ensures _)
+    (shut-step g.both-d.result _ (gate g.before.before) c.in_default.in_default-own.keys2 c.reason.result c.reason.ensures _)
 
-pub eval-spec : {M : Type 1} → statement M
-eval-spec =
+pub eval_spec : {M : Type 1} → statement M
+eval_spec =
     tie.close
     (tie.spec
     door-requires

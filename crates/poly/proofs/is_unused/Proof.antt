@@ -3,14 +3,14 @@ use Rattle.poly.proofs.Canonical.{unused-bits, used-bits}
 use Rattle.poly.proofs.is_unused.Statement.{statement}
 use Rattle.poly.proofs.is_unused.Tie as tie
 
-returns : tie.Need-returns
+returns : tie.Need-returns-then-r-eq0
 returns c =
-    let t = c.before.before in
-    unused-bits t.before.before.before.args.r (record { sfits = t.before.struct_told.given.0.1 }) (record { sfits = c.struct-told2.given.1.0.1 }) t.if1.true
+    let t = c in
+    unused-bits t.args.r (record { sfits = t.struct_told-1.given.0.1 }) (record { sfits = c.struct_told-then-r-eq0-1.given.1.0.1 }) t.if-r-eq0.true
 
-returns-2 : tie.Need-returns-2
+returns-2 : tie.Need-returns-else-r-eq0
 returns-2 c =
-    used-bits c.before.before.before.args.r (record { sfits = c.before.struct_told.given.0.1 }) c.if1.false
+    used-bits c.args.r (record { sfits = c.struct_told-1.given.0.1 }) c.if-r-eq0.false
 
-pub is-unused-spec : {M : Type 1} → statement M
-is-unused-spec = tie.close (tie.spec returns returns-2)
+pub is_unused_spec : {M : Type 1} → statement M
+is_unused_spec = tie.close (tie.spec returns returns-2)

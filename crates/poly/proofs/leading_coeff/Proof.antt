@@ -13,55 +13,55 @@ use borrow.Author.Rules.{rules}
 use Rattle.poly.proofs.leading_coeff.Statement.{statement}
 use Rattle.poly.proofs.leading_coeff.Tie as tie
 
-short : (c : tie.After-length) → c.length.result ≤ 32
+short : (c : tie.After-length-n) → c.length-n.result ≤ 32
 short c =
-    let s = c.before.before.before.before.args.t1 in
-    omega (arith, c.length.ensures, within-32 s.len s.coeffs (search (rules, long)))
+    let s = c.args.p in
+    omega (arith, c.length-n.ensures, within-32 s.len s.coeffs (search (rules, long)))
 
-door-requires : tie.Need-door-requires
+door-requires : tie.Need-door-d-requires
 door-requires c κs = tt
 
-enum_told : tie.Need-enum-told
-enum_told c = c.match.keys1
+enum_told : tie.Need-enum_told-1
+enum_told c = c.in-Open-1.keys1
 
-length-requires : tie.Need-length-requires
+length-requires : tie.Need-length-n-requires
 length-requires c κs = tt
 
-sub-t11 : tie.Need-overflow-sub-t11
+sub-t11 : tie.Need-overflow_sub-result
 sub-t11 c = search rules
 
-mul-t12 : tie.Need-overflow-mul-t12
+mul-t12 : tie.Need-offset_bounds-p-n
 mul-t12 c = omega (arith, short c.before)
 
-element-copy-out-t15 : tie.Need-element-copy-out-t15
+element-copy-out-t15 : tie.Need-bounds-p-n
 element-copy-out-t15 c = omega (arith, short c.before)
 
 reason-requires : tie.Need-reason-requires
 reason-requires c κs = tt
 
-returns : tie.Need-returns
+returns : tie.Need-returns-then-n-eq0
 returns c =
-    let l = c.before in
-    let g = l.before.before.before in
-    let p = g.before.args.t1 in
-    let n : length (terms_of p) ≤ length (terms_of p) - 1 = omega (arith, l.length.ensures) in
-    with_lead p _ (open_step g.door.result _ g.door.ensures l.before.enum_told.given.1 _ _ (ap Done (sym (get_or-eq_default (terms_of p) zero_r n))))
+    let l = c in
+    let g = l in
+    let p = g.args.p in
+    let n : length (terms_of p) ≤ length (terms_of p) - 1 = omega (arith, l.length-n.ensures) in
+    with_lead p _ (open_step g.door-d.result _ g.door-d.ensures l.in-Open.is _ _ (ap Done (sym (get_or-eq_default (terms_of p) zero_r n))))
 
-returns-2 : tie.Need-returns-2
+returns-2 : tie.Need-returns-else-n-eq0
 returns-2 c =
-    let l = c.before.before in
-    let g = l.before.before.before in
-    let p = g.before.args.t1 in
-    with_lead p _ (open_step g.door.result _ g.door.ensures l.before.enum_told.given.1 _ _
-    (ap Done (read-terms p.len p.coeffs (l.length.result - 1) past zero_r (omega (arith, l.length.ensures)) ∙ ap (λ (n : ℕ). get_or (terms_of p) (n - 1) zero_r) l.length.ensures)))
+    let l = c in
+    let g = l in
+    let p = g.args.p in
+    with_lead p _ (open_step g.door-d.result _ g.door-d.ensures l.in-Open.is _ _
+    (ap Done (read-terms p.len p.coeffs (l.length-n.result - 1) past zero_r (omega (arith, l.length-n.ensures)) ∙ ap (λ (n : ℕ). get_or (terms_of p) (n - 1) zero_r) l.length-n.ensures)))
 
-returns-3 : tie.Need-returns-3
+returns-3 : tie.Need-returns-in_default
 returns-3 c =
-    let g = c.before.before in
-    with_lead g.before.args.t1 _ (shut-step g.door.result _ g.door.ensures c.before.match.keys2 c.reason.result c.reason.ensures _)
+    let g = c in
+    with_lead g.args.p _ (shut-step g.door-d.result _ g.door-d.ensures c.in_default.in_default-own.keys2 c.reason.result c.reason.ensures _)
 
-pub leading-coeff-spec : {M : Type 1} → statement M
-leading-coeff-spec =
+pub leading_coeff_spec : {M : Type 1} → statement M
+leading_coeff_spec =
     tie.close
     (tie.spec
     door-requires

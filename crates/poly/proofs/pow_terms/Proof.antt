@@ -16,25 +16,25 @@ use Rattle.poly.proofs.Gives.{product-short}
 use Rattle.poly.proofs.pow_terms.Statement.{statement}
 use Rattle.poly.proofs.pow_terms.Tie as tie
 
-abbrev invariant-loop : tie.invariant-loop
+abbrev invariant-loop : tie.invariant-loop-i
 invariant-loop p n acc₀ steps₀ i₀ acc steps i =
     (n ≤ 200) × (i ≤ n) × (steps ≤ 2048 * i) × (length (terms_of acc) ≤ 32) × (length (terms_of p) ≤ 32) × Raised (terms_of p) n i steps acc
 
-abbrev decreases-loop : tie.decreases-loop
+abbrev decreases-loop : tie.decreases-loop-i
 decreases-loop p n acc₀ steps₀ i₀ acc steps i = n - i
 
-zero-requires : tie.Need-zero-requires invariant-loop decreases-loop
+zero-requires : tie.Need-zero-acc-requires invariant-loop decreases-loop
 zero-requires c κs = tt
 
-element-set-from-acc : tie.Need-element-set-from-acc invariant-loop decreases-loop
+element-set-from-acc : tie.Need-bounds-acc-0 invariant-loop decreases-loop
 element-set-from-acc c = search rules
 
-loop-holds : tie.Need-loop-init invariant-loop decreases-loop
+loop-holds : tie.Need-loop-i-init invariant-loop decreases-loop
 loop-holds c =
-    let s = c.before.args in
+    let s = c.args in
     let e : length s.p.coeffs ≡ 32 = search (rules, long) in
-    let z : ◌≡◌ {A = Poly} (poly_of (whole_r (pos 1) ∷ [])) (record { coeffs = set c.zero.result.coeffs 0 (whole_r (pos 1)); len = 1 }) = sym (ap {B = Poly} (λ (q : Poly). record { coeffs = set q.coeffs 0 (whole_r (pos 1)); len = 1 }) c.zero.ensures) in (
-      c.before.requires,
+    let z : ◌≡◌ {A = Poly} (poly_of (whole_r (pos 1) ∷ [])) (record { coeffs = set c.zero-acc.result.coeffs 0 (whole_r (pos 1)); len = 1 }) = sym (ap {B = Poly} (λ (q : Poly). record { coeffs = set q.coeffs 0 (whole_r (pos 1)); len = 1 }) c.zero-acc.ensures) in (
+      c.requires,
       omega arith,
       omega arith,
       subst (λ (q : Poly). length (terms_of q) ≤ 32) z (omega arith),
@@ -42,63 +42,63 @@ loop-holds c =
       subst (λ (q : Poly). Raised (terms_of s.p) s.n 0 0 q) z (raised-none (terms_of s.p) s.n),
     )
 
-times-requires : tie.Need-times-requires invariant-loop decreases-loop
+times-requires : tie.Need-times-r-requires invariant-loop decreases-loop
 times-requires c κs = tt
 
-few : (c : tie.After-times invariant-loop decreases-loop) → c.times.result.steps ≤ 2048
+few : (c : tie.After-times-r invariant-loop decreases-loop) → c.times-r.result.steps ≤ 2048
 few c =
-    let l = c.before.before in
-    steps-few (terms_of l.loop.acc) (terms_of l.before.before.args.p) c.times.result c.times.ensures l.loop.invariant.3 l.loop.invariant.4
+    let l = c in
+    steps-few (terms_of l.loop-i.acc) (terms_of l.args.p) c.times-r.result c.times-r.ensures l.loop-i.invariant.3 l.loop-i.invariant.4
 
-add-steps : tie.Need-overflow-add-steps invariant-loop decreases-loop
+add-steps : tie.Need-overflow_add-steps invariant-loop decreases-loop
 add-steps c = omega (arith, few c.before)
 
-enum-known-o : tie.Need-enum-known-o invariant-loop decreases-loop
-enum-known-o c = c.match.keys1
+enum-known-o : tie.Need-enum_known-o invariant-loop decreases-loop
+enum-known-o c = c.in-Refused-1.keys1
 
 refused-requires : tie.Need-refused-requires invariant-loop decreases-loop
 refused-requires c κs = tt
 
-returns : tie.Need-returns invariant-loop decreases-loop
+returns : tie.Need-returns-in-Refused invariant-loop decreases-loop
 returns c =
-    let t = c.before.before.before.before.before in
-    let l = t.before.before in
-    let s = l.before.before.args in
-    c.refused.ensures ∙ raised-over (terms_of s.p) s.n l.loop.i l.loop.steps l.loop.acc (omega arith) l.loop.invariant.5 t.times.result t.times.ensures _ c.before.before.o.given.1
+    let t = c in
+    let l = t in
+    let s = l.args in
+    c.refused.ensures ∙ raised-over (terms_of s.p) s.n l.loop-i.i l.loop-i.steps l.loop-i.acc (omega arith) l.loop-i.invariant.5 t.times-r.result t.times-r.ensures _ c.in-Refused.is
 
-enum_told : tie.Need-enum-told invariant-loop decreases-loop
-enum_told c = c.match.keys2
+enum_told : tie.Need-enum_told-1 invariant-loop decreases-loop
+enum_told c = c.in_default-1.keys2
 
-add-i : tie.Need-overflow-add-i invariant-loop decreases-loop
+add-i : tie.Need-overflow_add-i invariant-loop decreases-loop
 add-i c = omega arith
 
-loop-less : tie.Need-loop-smaller invariant-loop decreases-loop
+loop-less : tie.Need-loop-i-smaller invariant-loop decreases-loop
 loop-less c = omega arith
 
-loop-again : tie.Need-loop-preserved invariant-loop decreases-loop
+loop-again : tie.Need-loop-i-preserved invariant-loop decreases-loop
 loop-again c =
-    let t = c.before.before.before.before in
-    let l = t.before.before in
-    let s = l.before.before.args in (
-      l.loop.invariant.0,
+    let t = c in
+    let l = t in
+    let s = l.args in (
+      l.loop-i.invariant.0,
       omega arith,
-      omega (arith, few t, l.loop.invariant.2),
-      subst (λ (r : Answer). length (terms_of r.poly) ≤ 32) (sym t.times.ensures) (product-short (terms_of l.loop.acc) (terms_of s.p)),
-      l.loop.invariant.4,
-      raised-more (terms_of s.p) s.n l.loop.i l.loop.steps l.loop.acc (omega arith) l.loop.invariant.5 t.times.result t.times.ensures c.before.enum_told.given.1,
+      omega (arith, few t.before.before.before, l.loop-i.invariant.2),
+      subst (λ (r : Answer). length (terms_of r.poly) ≤ 32) (sym t.times-r.ensures) (product-short (terms_of l.loop-i.acc) (terms_of s.p)),
+      l.loop-i.invariant.4,
+      raised-more (terms_of s.p) s.n l.loop-i.i l.loop-i.steps l.loop-i.acc (omega arith) l.loop-i.invariant.5 t.times-r.result t.times-r.ensures c.in_default.is,
     )
 
 done-requires : tie.Need-done-requires invariant-loop decreases-loop
 done-requires c κs = tt
 
-returns-2 : tie.Need-returns-2 invariant-loop decreases-loop
+returns-2 : tie.Need-returns invariant-loop decreases-loop
 returns-2 c =
-    let l = c.before.before in
-    let s = l.before.before.args in
-    c.done.ensures ∙ raised_all (terms_of s.p) s.n l.loop.i l.loop.steps l.loop.acc (omega arith) l.loop.invariant.5
+    let l = c in
+    let s = l.args in
+    c.done.ensures ∙ raised_all (terms_of s.p) s.n l.loop-i.i l.loop-i.steps l.loop-i.acc (omega arith) l.loop-i.invariant.5
 
-pub pow-terms-spec : {M : Type 1} → statement M
-pow-terms-spec =
+pub pow_terms_spec : {M : Type 1} → statement M
+pow_terms_spec =
     tie.close
     (tie.spec
     invariant-loop

@@ -10,14 +10,14 @@ use Rattle.poly.proofs.scale.Tie as tie
 door-requires : tie.Need-door-requires
 door-requires c κs = tt
 
-door-of-ratio-requires : tie.Need-door-of-ratio-requires
+door-of-ratio-requires : tie.Need-door_of_ratio-requires
 door-of-ratio-requires c κs = tt
 
-both-requires : tie.Need-both-requires
+both-requires : tie.Need-both-d-requires
 both-requires c κs = tt
 
-enum_told : tie.Need-enum-told
-enum_told c = c.match.keys1
+enum_told : tie.Need-enum_told-1
+enum_told c = c.in-Open-1.keys1
 
 scale-requires : tie.Need-scale-requires
 scale-requires c κs = tt
@@ -28,26 +28,26 @@ reason-requires c κs = tt
 refused-requires : tie.Need-refused-requires
 refused-requires c κs = tt
 
-gate : (c : tie.After-both) → c.both.result ≡ both (door_of c.before.before.before.args.p) (door_of_ratio c.before.before.before.args.c)
-gate c = c.both.ensures ∙ ap₂ both c.before.before.door.ensures c.before.door-of-ratio.ensures
+gate : (c : tie.After-both-d) → c.both-d.result ≡ both (door_of c.args.p) (door_of_ratio c.args.c)
+gate c = c.both-d.ensures ∙ ap₂ both c.door.ensures c.door_of_ratio.ensures
 
-returns : tie.Need-returns
+returns : tie.Need-returns-in-Open
 returns c =
-    let g = c.before.before.before in
-    let s = g.before.before.before.args in
+    let g = c in
+    let s = g.args in
     with-gives c.scale.result (scale_of s.p s.c) (scale-gives s.p s.c)
-    (open-answer g.both.result _ (gate g) c.before.enum_told.given.1 _ c.scale.result c.scale.ensures)
+    (open-answer g.both-d.result _ (gate g.before.before) c.in-Open.is _ c.scale.result c.scale.ensures)
 
-returns-2 : tie.Need-returns-2
+returns-2 : tie.Need-returns-in_default
 returns-2 c =
-    let w = c.before in
-    let g = w.before.before in
-    let s = g.before.before.before.args in
+    let w = c in
+    let g = w in
+    let s = g.args in
     with-gives c.refused.result (scale_of s.p s.c) (scale-gives s.p s.c)
-    (shut-answer g.both.result _ (gate g) w.before.match.keys2 w.reason.result w.reason.ensures _ c.refused.result c.refused.ensures)
+    (shut-answer g.both-d.result _ (gate g.before.before.before) w.in_default.in_default-own.keys2 w.reason.result w.reason.ensures _ c.refused.result c.refused.ensures)
 
-pub scale-spec : {M : Type 1} → statement M
-scale-spec =
+pub scale_spec : {M : Type 1} → statement M
+scale_spec =
     tie.close
     (tie.spec
     door-requires

@@ -13,11 +13,11 @@ door-requires c κs = tt
 door-requires-2 : tie.Need-door-requires-2
 door-requires-2 c κs = tt
 
-both-requires : tie.Need-both-requires
+both-requires : tie.Need-both-d-requires
 both-requires c κs = tt
 
-enum_told : tie.Need-enum-told
-enum_told c = c.match.keys1
+enum_told : tie.Need-enum_told-1
+enum_told c = c.in-Open-1.keys1
 
 zip-requires : tie.Need-zip-requires
 zip-requires c κs = tt
@@ -28,23 +28,23 @@ reason-requires c κs = tt
 refused-requires : tie.Need-refused-requires
 refused-requires c κs = tt
 
-gate : (c : tie.After-both) → c.both.result ≡ both (door_of c.before.before.before.args.a) (door_of c.before.before.before.args.b)
-gate c = c.both.ensures ∙ ap₂ both c.before.before.door.ensures c.before.door2.ensures
+gate : (c : tie.After-both-d) → c.both-d.result ≡ both (door_of c.args.a) (door_of c.args.b)
+gate c = c.both-d.ensures ∙ ap₂ both c.door.ensures c.door-2.ensures
 
-returns : tie.Need-returns
+returns : tie.Need-returns-in-Open
 returns c =
-    let g = c.before.before.before in
-    let s = g.before.before.before.args in
+    let g = c in
+    let s = g.args in
     with-gives c.zip.result (sub_of s.a s.b) (sub-gives s.a s.b)
-    (open-answer g.both.result _ (gate g) c.before.enum_told.given.1 _ c.zip.result c.zip.ensures)
+    (open-answer g.both-d.result _ (gate g.before.before) c.in-Open.is _ c.zip.result c.zip.ensures)
 
-returns-2 : tie.Need-returns-2
+returns-2 : tie.Need-returns-in_default
 returns-2 c =
-    let w = c.before in
-    let g = w.before.before in
-    let s = g.before.before.before.args in
+    let w = c in
+    let g = w in
+    let s = g.args in
     with-gives c.refused.result (sub_of s.a s.b) (sub-gives s.a s.b)
-    (shut-answer g.both.result _ (gate g) w.before.match.keys2 w.reason.result w.reason.ensures _ c.refused.result c.refused.ensures)
+    (shut-answer g.both-d.result _ (gate g.before.before.before) w.in_default.in_default-own.keys2 w.reason.result w.reason.ensures _ c.refused.result c.refused.ensures)
 
 pub sub_spec : {M : Type 1} → statement M
 sub_spec =

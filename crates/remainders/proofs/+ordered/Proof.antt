@@ -77,47 +77,47 @@ first-32 t c =
     within-32 c.args.a.len c.args.a.coeffs e
 
 -- a division is by at least two coefficients
-two : (t : ℕ) (c : ordered-lts.After-divide (calls t) (ordered_at t) ordered.Post) → 2 ≤ length (terms_of c.before.before.before.before.before.args.t2)
+two : (t : ℕ) (c : ordered-lts.After-divide-d (calls t) (ordered_at t) ordered.Post) → 2 ≤ length (terms_of c.args.b)
 two t c =
-    let l = c.before.before.before in
-    omega (arith, l.length2.ensures, c.before.before.if1.false, c.before.if2.false)
+    let l = c in
+    omega (arith, l.length-m.ensures, c.if-m-eq0.false, c.if-m-eq1.false)
 
 -- the power of the leading coefficient
-power-is : (t : ℕ) (c : ordered-lts.After-power2 (calls t) (ordered_at t) ordered.Post) → c.power2.result ≡ number_of (powered plain (lead_of plain (terms_of c.before.before.before.before.before.before.before.before.before.before.before.before.before.args.t2)) (length (terms_of c.before.before.before.before.before.before.before.before.before.before.before.before.before.args.a) - length (terms_of c.before.before.before.before.before.before.before.before.divide.result.rest)) (unit plain) 0)
+power-is : (t : ℕ) (c : ordered-lts.After-power-p (calls t) (ordered_at t) ordered.Post) → c.power-p.result ≡ number_of (powered plain (lead_of plain (terms_of c.args.b)) (length (terms_of c.args.a) - length (terms_of c.divide-d.result.rest)) (unit plain) 0)
 power-is t c =
-    let k = c.before.before.before.before in
-    let l = k.before.before.before.before.before.before.before in
-    let n = l.before in
-    power-told (terms_of n.before.args.a) (terms_of n.before.args.t2) (terms_of k.before.before.before.before.divide.result.rest) _ _ _ _ _ c.before.before.lead.ensures n.length.ensures k.length3.ensures c.before.less.ensures c.power2.ensures
+    let k = c in
+    let l = k in
+    let n = l in
+    power-told (terms_of n.args.a) (terms_of n.args.b) (terms_of k.divide-d.result.rest) _ _ _ _ _ c.lead.ensures n.length-n.ensures k.length-k.ensures c.less.ensures c.power-p.ensures
 
 -- the rest is not zero
-some : (t : ℕ) (c : ordered-lts.Else3 (calls t) (ordered_at t) ordered.Post) → length (terms_of c.before.before.before.before.before.divide.result.rest) ≡ 0 → ⊥
-some t c z = c.if3.false (c.before.length3.ensures ∙ z)
+some : (t : ℕ) (c : ordered-lts.Else-k-eq0 (calls t) (ordered_at t) ordered.Post) → length (terms_of c.divide-d.result.rest) ≡ 0 → ⊥
+some t c z = c.if-k-eq0.false (c.length-k.ensures ∙ z)
 
 -- the steps before the inner resultant
-few-before : (t : ℕ) (c : ordered-lts.After-power2 (calls t) (ordered_at t) ordered.Post) → c.before.before.before.before.before.before.before.before.divide.result.steps + c.power2.result.steps ≤ 2112
+few-before : (t : ℕ) (c : ordered-lts.After-power-p (calls t) (ordered_at t) ordered.Post) → c.divide-d.result.steps + c.power-p.result.steps ≤ 2112
 few-before t c =
-    let x = c.before.before.before.before.before.before.before.before in
-    let s = x.before.before.before.before.before in
-    let l = first-32 t s in
-    let m = division-few (terms_of s.args.a) (terms_of s.args.t2) (two t x) x.divide.result x.divide.ensures l s.requires.1 in
-    let p = power-few (terms_of s.args.a) (terms_of s.args.t2) (two t x) x.divide.result x.divide.ensures c.before.before.before.before.before.before.enum-told2.given.1 (some t c.before.before.before) c.power2.result (power-is t c) in
+    let x = c in
+    let s = x in
+    let l = first-32 t s.before.before.before.before.before.before.before.before.before.before.before.before in
+    let m = division-few (terms_of s.args.a) (terms_of s.args.b) (two t x.before.before.before.before.before.before.before) x.divide-d.result x.divide-d.ensures l s.requires.1 in
+    let p = power-few (terms_of s.args.a) (terms_of s.args.b) (two t x.before.before.before.before.before.before.before) x.divide-d.result x.divide-d.ensures c.in_default.is (some t c.before.before.before) c.power-p.result (power-is t c) in
     omega arith
 
 -- and those of the inner resultant
-few-inner : (t : ℕ) (c : ordered-lts.After-ordered (calls t) (ordered_at t) ordered.Post) → c.ordered.result.steps ≤ 2232
+few-inner : (t : ℕ) (c : ordered-lts.After-ordered-s (calls t) (ordered_at t) ordered.Post) → c.ordered-s.result.steps ≤ 2232
 few-inner t c =
-    let w = c.before.before.before in
-    let x = w.before.before.before.before.before.before.before.before in
-    let s = x.before.before.before.before.before in
-    let l = first-32 t s in
-    let r = rest-shorter (terms_of s.args.a) (terms_of s.args.t2) (two t x) x.divide.result x.divide.ensures w.before.before.before.before.before.before.enum-told2.given.1 in
-    ordered-few (terms_of s.args.t2) (terms_of x.divide.result.rest) c.ordered.result c.ordered.ensures (omega (arith, s.requires.1)) (omega arith)
+    let w = c in
+    let x = w in
+    let s = x in
+    let l = first-32 t s.before.before.before.before.before.before.before.before.before.before.before.before.before.before in
+    let r = rest-shorter (terms_of s.args.a) (terms_of s.args.b) (two t x.before.before.before.before.before.before.before.before.before) x.divide-d.result x.divide-d.ensures w.in_default.is in
+    ordered-few (terms_of s.args.b) (terms_of x.divide-d.result.rest) c.ordered-s.result c.ordered-s.ensures (omega (arith, s.requires.1)) (omega arith)
 
-ordered-length-requires : (t : ℕ) → ordered-lts.Need-length-requires (calls t) (ordered_at t) ordered.Post
+ordered-length-requires : (t : ℕ) → ordered-lts.Need-length-n-requires (calls t) (ordered_at t) ordered.Post
 ordered-length-requires t c κs = tt
 
-ordered-length-requires-2 : (t : ℕ) → ordered-lts.Need-length-requires-2 (calls t) (ordered_at t) ordered.Post
+ordered-length-requires-2 : (t : ℕ) → ordered-lts.Need-length-m-requires (calls t) (ordered_at t) ordered.Post
 ordered-length-requires-2 t c κs = tt
 
 ordered-whole-requires : (t : ℕ) → ordered-lts.Need-whole-requires (calls t) (ordered_at t) ordered.Post
@@ -126,63 +126,63 @@ ordered-whole-requires t c κs = tt
 ordered-worked-requires : (t : ℕ) → ordered-lts.Need-worked-requires (calls t) (ordered_at t) ordered.Post
 ordered-worked-requires t c κs = tt
 
-ordered-returns : (t : ℕ) → ordered-lts.Need-returns (calls t) (ordered_at t) ordered.Post
+ordered-returns : (t : ℕ) → ordered-lts.Need-returns-then-m-eq0 (calls t) (ordered_at t) ordered.Post
 ordered-returns t c =
-    let l = c.before.before.before in
-    let s = l.before.before.args in
-    c.worked.ensures ∙ ap (λ (r : Ratio). number_of (fine 0 r)) c.before.whole.ensures ∙ ap number_of (zero_is (terms_of s.a) (terms_of s.t2) (sym l.length2.ensures ∙ c.before.before.if1.true))
+    let l = c in
+    let s = l.args in
+    c.worked.ensures ∙ ap (λ (r : Ratio). number_of (fine 0 r)) c.whole.ensures ∙ ap number_of (zero_is (terms_of s.a) (terms_of s.b) (sym l.length-m.ensures ∙ c.if-m-eq0.true))
 
-ordered-element-copy-out-c : (t : ℕ) → ordered-lts.Need-element-copy-out-c (calls t) (ordered_at t) ordered.Post
+ordered-element-copy-out-c : (t : ℕ) → ordered-lts.Need-bounds-b-0 (calls t) (ordered_at t) ordered.Post
 ordered-element-copy-out-c t c = omega arith
 
-ordered-less-one-requires : (t : ℕ) → ordered-lts.Need-less-one-requires (calls t) (ordered_at t) ordered.Post
+ordered-less-one-requires : (t : ℕ) → ordered-lts.Need-less_one-requires (calls t) (ordered_at t) ordered.Post
 ordered-less-one-requires t c κs = tt
 
 ordered-power-requires : (t : ℕ) → ordered-lts.Need-power-requires (calls t) (ordered_at t) ordered.Post
 ordered-power-requires t c κs =
-    let n = c.before.before.before.before.before in
-    omega (arith, c.less_one.ensures, n.length.ensures, first-32 t n.before)
+    let n = c in
+    omega (arith, c.less_one.ensures, n.length-n.ensures, first-32 t n.before.before.before.before.before.before)
 
-ordered-returns-2 : (t : ℕ) → ordered-lts.Need-returns-2 (calls t) (ordered_at t) ordered.Post
+ordered-returns-2 : (t : ℕ) → ordered-lts.Need-returns-then-m-eq1 (calls t) (ordered_at t) ordered.Post
 ordered-returns-2 t c =
-    let l = c.before.before.before.before.before in
-    let s = l.before.before.args in
-    let one : length (terms_of s.t2) ≡ 1 = sym l.length2.ensures ∙ c.before.before.before.if2.true in
-    constant-told (terms_of s.a) (terms_of s.t2) _ _ _ _ one (read-terms s.t2.len s.t2.coeffs 0 past zero_r (omega arith)) l.before.length.ensures c.before.less_one.ensures c.power.ensures
+    let l = c in
+    let s = l.args in
+    let one : length (terms_of s.b) ≡ 1 = sym l.length-m.ensures ∙ c.if-m-eq1.true in
+    constant-told (terms_of s.a) (terms_of s.b) _ _ _ _ one (read-terms s.b.len s.b.coeffs 0 past zero_r (omega arith)) l.length-n.ensures c.less_one.ensures c.power.ensures
 
-ordered-divide-requires : (t : ℕ) → ordered-lts.Need-divide-requires (calls t) (ordered_at t) ordered.Post
+ordered-divide-requires : (t : ℕ) → ordered-lts.Need-divide-d-requires (calls t) (ordered_at t) ordered.Post
 ordered-divide-requires t c κs = tt
 
-ordered-enum-told : (t : ℕ) → ordered-lts.Need-enum-told (calls t) (ordered_at t) ordered.Post
+ordered-enum-told : (t : ℕ) → ordered-lts.Need-enum_told-1 (calls t) (ordered_at t) ordered.Post
 ordered-enum-told t c = search rules
 
-ordered-no-number-requires : (t : ℕ) → ordered-lts.Need-no-number-requires (calls t) (ordered_at t) ordered.Post
+ordered-no-number-requires : (t : ℕ) → ordered-lts.Need-no_number-requires (calls t) (ordered_at t) ordered.Post
 ordered-no-number-requires t c κs = tt
 
-ordered-returns-3 : (t : ℕ) → ordered-lts.Need-returns-3 (calls t) (ordered_at t) ordered.Post
+ordered-returns-3 : (t : ℕ) → ordered-lts.Need-returns-in-Refused (calls t) (ordered_at t) ordered.Post
 ordered-returns-3 t c =
-    let x = c.before.before.before in
-    let s = x.before.before.before.before.before in
-    c.no_number.ensures ∙ division-refused (terms_of s.args.a) (terms_of s.args.t2) (two t x) x.divide.result x.divide.ensures _ c.before.enum_told.given.1
+    let x = c in
+    let s = x in
+    c.no_number.ensures ∙ division-refused (terms_of s.args.a) (terms_of s.args.b) (two t x.before.before) x.divide-d.result x.divide-d.ensures _ c.in-Refused.is
 
-ordered-enum-told-2 : (t : ℕ) → ordered-lts.Need-enum-told-2 (calls t) (ordered_at t) ordered.Post
+ordered-enum-told-2 : (t : ℕ) → ordered-lts.Need-enum_told-in_default (calls t) (ordered_at t) ordered.Post
 ordered-enum-told-2 t c = search rules
 
-ordered-length-requires-3 : (t : ℕ) → ordered-lts.Need-length-requires-3 (calls t) (ordered_at t) ordered.Post
+ordered-length-requires-3 : (t : ℕ) → ordered-lts.Need-length-k-requires (calls t) (ordered_at t) ordered.Post
 ordered-length-requires-3 t c κs = tt
 
-ordered-whole-requires-2 : (t : ℕ) → ordered-lts.Need-whole-requires-2 (calls t) (ordered_at t) ordered.Post
+ordered-whole-requires-2 : (t : ℕ) → ordered-lts.Need-whole-requires-then-k-eq0 (calls t) (ordered_at t) ordered.Post
 ordered-whole-requires-2 t c κs = tt
 
-ordered-worked-requires-2 : (t : ℕ) → ordered-lts.Need-worked-requires-2 (calls t) (ordered_at t) ordered.Post
+ordered-worked-requires-2 : (t : ℕ) → ordered-lts.Need-worked-requires-then-k-eq0 (calls t) (ordered_at t) ordered.Post
 ordered-worked-requires-2 t c κs = tt
 
-ordered-returns-4 : (t : ℕ) → ordered-lts.Need-returns-4 (calls t) (ordered_at t) ordered.Post
+ordered-returns-4 : (t : ℕ) → ordered-lts.Need-returns-then-k-eq0 (calls t) (ordered_at t) ordered.Post
 ordered-returns-4 t c =
-    let k = c.before.before.before in
-    let x = k.before.before.before.before in
-    let s = x.before.before.before.before.before in
-    c.worked2.ensures ∙ ap (λ (r : Ratio). number_of (fine x.divide.result.steps r)) c.before.whole2.ensures ∙ nothing_left (terms_of s.args.a) (terms_of s.args.t2) (two t x) x.divide.result x.divide.ensures k.before.before.enum-told2.given.1 (sym k.length3.ensures ∙ c.before.before.if3.true)
+    let k = c in
+    let x = k in
+    let s = x in
+    c.worked-then-k-eq0.ensures ∙ ap (λ (r : Ratio). number_of (fine x.divide-d.result.steps r)) c.whole-then-k-eq0.ensures ∙ nothing_left (terms_of s.args.a) (terms_of s.args.b) (two t x.before.before.before.before.before.before) x.divide-d.result x.divide-d.ensures k.in_default.is (sym k.length-k.ensures ∙ c.if-k-eq0.true)
 
 ordered-lead-requires : (t : ℕ) → ordered-lts.Need-lead-requires (calls t) (ordered_at t) ordered.Post
 ordered-lead-requires t c κs = tt
@@ -190,98 +190,98 @@ ordered-lead-requires t c κs = tt
 ordered-less-requires : (t : ℕ) → ordered-lts.Need-less-requires (calls t) (ordered_at t) ordered.Post
 ordered-less-requires t c κs = tt
 
-ordered-power-requires-2 : (t : ℕ) → ordered-lts.Need-power-requires-2 (calls t) (ordered_at t) ordered.Post
+ordered-power-requires-2 : (t : ℕ) → ordered-lts.Need-power-p-requires (calls t) (ordered_at t) ordered.Post
 ordered-power-requires-2 t c κs =
-    let n = c.before.before.before.before.before.before.before.before.before.before.before in
-    omega (arith, c.less.ensures, n.length.ensures, first-32 t n.before)
+    let n = c in
+    omega (arith, c.less.ensures, n.length-n.ensures, first-32 t n.before.before.before.before.before.before.before.before.before.before.before)
 
-ordered-enum-told-3 : (t : ℕ) → ordered-lts.Need-enum-told-3 (calls t) (ordered_at t) ordered.Post
+ordered-enum-told-3 : (t : ℕ) → ordered-lts.Need-enum_told-in-Refused-op (calls t) (ordered_at t) ordered.Post
 ordered-enum-told-3 t c = search rules
 
-ordered-add-no-number : (t : ℕ) → ordered-lts.Need-overflow-add-no-number (calls t) (ordered_at t) ordered.Post
-ordered-add-no-number t c = omega (arith, few-before t c.before.before.before.before)
+ordered-add-no-number : (t : ℕ) → ordered-lts.Need-overflow_add-d (calls t) (ordered_at t) ordered.Post
+ordered-add-no-number t c = omega (arith, few-before t c.before.before.before)
 
-ordered-no-number-requires-2 : (t : ℕ) → ordered-lts.Need-no-number-requires-2 (calls t) (ordered_at t) ordered.Post
+ordered-no-number-requires-2 : (t : ℕ) → ordered-lts.Need-no_number-requires-in-Refused-op (calls t) (ordered_at t) ordered.Post
 ordered-no-number-requires-2 t c κs = tt
 
-ordered-returns-5 : (t : ℕ) → ordered-lts.Need-returns-5 (calls t) (ordered_at t) ordered.Post
+ordered-returns-5 : (t : ℕ) → ordered-lts.Need-returns-in-Refused-op (calls t) (ordered_at t) ordered.Post
 ordered-returns-5 t c =
-    let w = c.before.before.before.before.before in
-    let x = w.before.before.before.before.before.before.before.before in
-    let s = x.before.before.before.before.before in
-    c.no-number2.ensures ∙ power-refused (terms_of s.args.a) (terms_of s.args.t2) (two t x) x.divide.result x.divide.ensures w.before.before.before.before.before.before.enum-told2.given.1 (some t w.before.before.before) w.power2.result (power-is t w) _ c.before.before.before.enum-told3.given.1
+    let w = c in
+    let x = w in
+    let s = x in
+    c.no_number-in-Refused-op.ensures ∙ power-refused (terms_of s.args.a) (terms_of s.args.b) (two t x.before.before.before.before.before.before.before.before.before.before.before) x.divide-d.result x.divide-d.ensures w.in_default.is (some t w.before.before.before.before.before.before.before) w.power-p.result (power-is t w.before.before.before.before) _ c.in-Refused-op.is
 
-ordered-enum-told-4 : (t : ℕ) → ordered-lts.Need-enum-told-4 (calls t) (ordered_at t) ordered.Post
+ordered-enum-told-4 : (t : ℕ) → ordered-lts.Need-enum_told-in_default-op (calls t) (ordered_at t) ordered.Post
 ordered-enum-told-4 t c = search rules
 
-ordered-ordered-requires : (t : ℕ) → ordered-lts.Need-ordered-requires (calls t) (ordered_at t) ordered.Post
+ordered-ordered-requires : (t : ℕ) → ordered-lts.Need-ordered-s-requires (calls t) (ordered_at t) ordered.Post
 ordered-ordered-requires t c κs =
-    let w = c.before.before in
-    let x = w.before.before.before.before.before.before.before.before in
-    let s = x.before.before.before.before.before in
-    let r = rest-shorter (terms_of s.args.a) (terms_of s.args.t2) (two t x) x.divide.result x.divide.ensures w.before.before.before.before.before.before.enum-told2.given.1 in
+    let w = c in
+    let x = w in
+    let s = x in
+    let r = rest-shorter (terms_of s.args.a) (terms_of s.args.b) (two t x.before.before.before.before.before.before.before.before) x.divide-d.result x.divide-d.ensures w.in_default.is in
     (omega (arith, s.requires.0), omega arith)
 
-ordered-enum-told-5 : (t : ℕ) → ordered-lts.Need-enum-told-5 (calls t) (ordered_at t) ordered.Post
+ordered-enum-told-5 : (t : ℕ) → ordered-lts.Need-enum_told-in-Refused-os (calls t) (ordered_at t) ordered.Post
 ordered-enum-told-5 t c = search rules
 
-ordered-add-no-number-2 : (t : ℕ) → ordered-lts.Need-overflow-add-no-number-2 (calls t) (ordered_at t) ordered.Post
-ordered-add-no-number-2 t c = omega (arith, few-before t c.before.before.before.before.before.before.before)
+ordered-add-no-number-2 : (t : ℕ) → ordered-lts.Need-overflow_add-d-in-Refused-os (calls t) (ordered_at t) ordered.Post
+ordered-add-no-number-2 t c = omega (arith, few-before t c.before.before.before.before.before)
 
-ordered-add-no-number-3 : (t : ℕ) → ordered-lts.Need-overflow-add-no-number-3 (calls t) (ordered_at t) ordered.Post
-ordered-add-no-number-3 t c = let i = c.before.before.before.before.before in omega (arith, few-before t i.before.before.before, few-inner t i)
+ordered-add-no-number-3 : (t : ℕ) → ordered-lts.Need-overflow_add-d-in-Refused-os-2 (calls t) (ordered_at t) ordered.Post
+ordered-add-no-number-3 t c = let i = c in omega (arith, few-before t i.before.before.before.before.before.before, few-inner t i.before.before.before.before)
 
-ordered-no-number-requires-3 : (t : ℕ) → ordered-lts.Need-no-number-requires-3 (calls t) (ordered_at t) ordered.Post
+ordered-no-number-requires-3 : (t : ℕ) → ordered-lts.Need-no_number-requires-in-Refused-os (calls t) (ordered_at t) ordered.Post
 ordered-no-number-requires-3 t c κs = tt
 
-ordered-returns-6 : (t : ℕ) → ordered-lts.Need-returns-6 (calls t) (ordered_at t) ordered.Post
+ordered-returns-6 : (t : ℕ) → ordered-lts.Need-returns-in-Refused-os (calls t) (ordered_at t) ordered.Post
 ordered-returns-6 t c =
-    let i = c.before.before.before.before.before.before in
-    let w = i.before.before.before in
-    let x = w.before.before.before.before.before.before.before.before in
-    let s = x.before.before.before.before.before in
-    c.no-number3.ensures ∙ inner-refused (terms_of s.args.a) (terms_of s.args.t2) (two t x) x.divide.result x.divide.ensures w.before.before.before.before.before.before.enum-told2.given.1 (some t w.before.before.before) w.power2.result (power-is t w) i.before.enum-told4.given.1 i.ordered.result i.ordered.ensures _ c.before.before.before.before.enum-told5.given.1
+    let i = c in
+    let w = i in
+    let x = w in
+    let s = x in
+    c.no_number-in-Refused-os.ensures ∙ inner-refused (terms_of s.args.a) (terms_of s.args.b) (two t x.before.before.before.before.before.before.before.before.before.before.before.before.before.before) x.divide-d.result x.divide-d.ensures w.in_default.is (some t w.before.before.before.before.before.before.before.before.before.before) w.power-p.result (power-is t w.before.before.before.before.before.before.before) i.in_default-op.is i.ordered-s.result i.ordered-s.ensures _ c.in-Refused-os.is
 
-ordered-enum-told-6 : (t : ℕ) → ordered-lts.Need-enum-told-6 (calls t) (ordered_at t) ordered.Post
+ordered-enum-told-6 : (t : ℕ) → ordered-lts.Need-enum_told-in_default-os (calls t) (ordered_at t) ordered.Post
 ordered-enum-told-6 t c = search rules
 
-ordered-add-total : (t : ℕ) → ordered-lts.Need-overflow-add-total (calls t) (ordered_at t) ordered.Post
-ordered-add-total t c = omega (arith, few-before t c.before.before.before.before.before.before.before)
+ordered-add-total : (t : ℕ) → ordered-lts.Need-overflow_add-total (calls t) (ordered_at t) ordered.Post
+ordered-add-total t c = omega (arith, few-before t c.before.before.before.before.before)
 
-ordered-add-total-2 : (t : ℕ) → ordered-lts.Need-overflow-add-total-2 (calls t) (ordered_at t) ordered.Post
-ordered-add-total-2 t c = let i = c.before.before.before.before.before in omega (arith, few-before t i.before.before.before, few-inner t i)
+ordered-add-total-2 : (t : ℕ) → ordered-lts.Need-overflow_add-total-2 (calls t) (ordered_at t) ordered.Post
+ordered-add-total-2 t c = let i = c in omega (arith, few-before t i.before.before.before.before.before.before, few-inner t i.before.before.before.before)
 
-ordered-less-one-requires-2 : (t : ℕ) → ordered-lts.Need-less-one-requires-2 (calls t) (ordered_at t) ordered.Post
+ordered-less-one-requires-2 : (t : ℕ) → ordered-lts.Need-less_one-requires-2 (calls t) (ordered_at t) ordered.Post
 ordered-less-one-requires-2 t c κs = tt
 
-ordered-sub-sign : (t : ℕ) → ordered-lts.Need-overflow-sub-sign (calls t) (ordered_at t) ordered.Post
-ordered-sub-sign t c = omega (arith, c.before.before.before.before.before.before.before.before.before.before.before.before.before.before.before.before.before.before.before.if1.false)
+ordered-sub-sign : (t : ℕ) → ordered-lts.Need-overflow_sub-m (calls t) (ordered_at t) ordered.Post
+ordered-sub-sign t c = omega (arith, c.if-m-eq0.false)
 
-ordered-mul-sign : (t : ℕ) → ordered-lts.Need-overflow-mul-sign (calls t) (ordered_at t) ordered.Post
+ordered-mul-sign : (t : ℕ) → ordered-lts.Need-overflow_mul-less_one (calls t) (ordered_at t) ordered.Post
 ordered-mul-sign t c =
-    let l = c.before.before.before.before.before.before.before.before.before.before.before.before.before.before.before.before.before.before.before.before in
-    let s = l.before.before in
-    let k = first-32 t s in
-    let f = degrees-fit l.before.length.result l.length2.result c.less-one2.result c.less-one2.ensures (omega (arith, l.before.length.ensures)) (omega (arith, l.length2.ensures, s.requires.1)) in
+    let l = c in
+    let s = l in
+    let k = first-32 t s.before.before.before.before.before.before.before.before.before.before.before.before.before.before.before.before.before.before.before in
+    let f = degrees-fit l.length-n.result l.length-m.result c.less_one-2.result c.less_one-2.ensures (omega (arith, l.length-n.ensures)) (omega (arith, l.length-m.ensures, s.requires.1)) in
     omega arith
 
-ordered-sign-requires : (t : ℕ) → ordered-lts.Need-sign-requires (calls t) (ordered_at t) ordered.Post
+ordered-sign-requires : (t : ℕ) → ordered-lts.Need-sign-sg-requires (calls t) (ordered_at t) ordered.Post
 ordered-sign-requires t c κs = tt
 
 ordered-join-requires : (t : ℕ) → ordered-lts.Need-join-requires (calls t) (ordered_at t) ordered.Post
-ordered-join-requires t c κs = let i = c.before.before.before.before.before.before.before in omega (arith, few-before t i.before.before.before, few-inner t i)
+ordered-join-requires t c κs = let i = c in omega (arith, few-before t i.before.before.before.before.before.before.before.before.before.before, few-inner t i.before.before.before.before.before.before.before.before)
 
-ordered-returns-7 : (t : ℕ) → ordered-lts.Need-returns-7 (calls t) (ordered_at t) ordered.Post
+ordered-returns-7 : (t : ℕ) → ordered-lts.Need-returns (calls t) (ordered_at t) ordered.Post
 ordered-returns-7 t c =
-    let i = c.before.before.before.before.before.before.before.before in
-    let w = i.before.before.before in
-    let x = w.before.before.before.before.before.before.before.before in
-    let l = x.before.before.before in
-    let s = l.before.before in
-    all_made (terms_of s.args.a) (terms_of s.args.t2) (two t x) x.divide.result x.divide.ensures w.before.before.before.before.before.before.enum-told2.given.1 (some t w.before.before.before) w.power2.result (power-is t w) i.before.enum-told4.given.1 i.ordered.result i.ordered.ensures c.before.before.before.before.before.before.enum-told6.given.1 _ _ _ _ _ l.before.length.ensures l.length2.ensures c.before.before.less-one2.ensures c.before.sign.ensures c.join.ensures
+    let i = c in
+    let w = i in
+    let x = w in
+    let l = x in
+    let s = l in
+    all_made (terms_of s.args.a) (terms_of s.args.b) (two t x.before.before.before.before.before.before.before.before.before.before.before.before.before.before.before.before.before.before) x.divide-d.result x.divide-d.ensures w.in_default.is (some t w.before.before.before.before.before.before.before.before.before.before.before.before.before.before) w.power-p.result (power-is t w.before.before.before.before.before.before.before.before.before.before.before) i.in_default-op.is i.ordered-s.result i.ordered-s.ensures c.in_default-os.is _ _ _ _ _ l.length-n.ensures l.length-m.ensures c.less_one-2.ensures c.sign-sg.ensures c.join.ensures
 
-pub +ordered-spec : {M : Type 1} → statement M
-+ordered-spec = close μ-ordered λ t. ordered-lts.spec (calls t)
+pub +ordered_spec : {M : Type 1} → statement M
++ordered_spec = close μ-ordered λ t. ordered-lts.spec (calls t)
     (ordered_at t)
     ordered.Post
     (ordered-length-requires t)

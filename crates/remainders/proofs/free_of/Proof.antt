@@ -22,47 +22,47 @@ normalise-requires c κs = search rules
 done-requires : tie.Need-done-requires
 done-requires c κs = search rules
 
-returns : tie.Need-returns
+returns : tie.Need-returns-then-length-lt2
 returns c =
-    let s = c.before.before.before.before.args in
-    c.done.ensures ∙ ap (λ (p : Poly). done_with p 0) c.before.normalise.ensures ∙ freed-constant (terms_of s.f) (terms_of s.g) (omega (arith, c.before.before.before.length.ensures))
+    let s = c.args in
+    c.done.ensures ∙ ap (λ (p : Poly). done_with p 0) c.normalise.ensures ∙ freed-constant (terms_of s.f) (terms_of s.g) (omega (arith, c.length.ensures))
 
-divide-requires : tie.Need-divide-requires
+divide-requires : tie.Need-divide-d-requires
 divide-requires c κs = search rules
 
-enum_told : tie.Need-enum-told
+enum_told : tie.Need-enum_told-1
 enum_told c = search rules
 
 refused-requires : tie.Need-refused-requires
 refused-requires c κs = search rules
 
-returns-2 : tie.Need-returns-2
+returns-2 : tie.Need-returns-in-Refused
 returns-2 c =
-    let d = c.before.before.before in
-    let s = d.before.before.before.args in
-    c.refused.ensures ∙ freed-refused (terms_of s.f) (terms_of s.g) d.divide.result (omega (arith, d.before.before.length.ensures)) d.divide.ensures _ c.before.enum_told.given.1
+    let d = c in
+    let s = d.args in
+    c.refused.ensures ∙ freed-refused (terms_of s.f) (terms_of s.g) d.divide-d.result (omega (arith, d.length.ensures)) d.divide-d.ensures _ c.in-Refused.is
 
-enum-told-2 : tie.Need-enum-told-2
+enum-told-2 : tie.Need-enum_told-in_default
 enum-told-2 c = search rules
 
 length-requires-2 : tie.Need-length-requires-2
 length-requires-2 c κs = search rules
 
-normalise-requires-2 : tie.Need-normalise-requires-2
+normalise-requires-2 : tie.Need-normalise-requires-then-length-gt0
 normalise-requires-2 c κs = search rules
 
-done-requires-2 : tie.Need-done-requires-2
+done-requires-2 : tie.Need-done-requires-then-length-gt0
 done-requires-2 c κs = search rules
 
-returns-3 : tie.Need-returns-3
+returns-3 : tie.Need-returns-then-length-gt0
 returns-3 c =
-    let l = c.before.before.before in
-    let t = l.before.before in
-    let d = t.before.before in
-    let s = d.before.before.before.args in
-    c.done2.ensures
-    ∙ ap (λ (p : Poly). done_with p d.divide.result.steps) c.before.normalise2.ensures
-    ∙ freed-not (terms_of s.f) (terms_of s.g) d.divide.result (omega (arith, d.before.before.length.ensures)) d.divide.ensures t.enum-told2.given.1 (omega (arith, l.length2.ensures))
+    let l = c in
+    let t = l in
+    let d = t in
+    let s = d.args in
+    c.done-then-length-gt0.ensures
+    ∙ ap (λ (p : Poly). done_with p d.divide-d.result.steps) c.normalise-then-length-gt0.ensures
+    ∙ freed-not (terms_of s.f) (terms_of s.g) d.divide-d.result (omega (arith, d.length.ensures)) d.divide-d.ensures t.in_default.is (omega (arith, l.length-2.ensures))
 
 monic-requires : tie.Need-monic-requires
 monic-requires c κs = search rules
@@ -75,26 +75,26 @@ short-g c = within-32 c.args.g.len c.args.g.coeffs (search (rules, long))
 
 later-requires : tie.Need-later-requires
 later-requires c κs =
-    let t = c.before.before.before.before.before in
-    let d = t.before.before in
-    let s = d.before.before.before.args in
-    let n = short-f d.before.before.before in
-    let m = short-g d.before.before.before in (
-      omega (arith, division-few (terms_of s.f) (terms_of s.g) d.divide.result (omega (arith, d.before.before.length.ensures)) d.divide.ensures n m),
-      omega (arith, quotient-few (terms_of s.f) (terms_of s.g) d.divide.result (omega (arith, d.before.before.length.ensures)) d.divide.ensures t.enum-told2.given.1 n c.monic.result c.monic.ensures),
+    let t = c in
+    let d = t in
+    let s = d.args in
+    let n = short-f d.before.before.before.before.before.before.before.before.before in
+    let m = short-g d.before.before.before.before.before.before.before.before.before in (
+      omega (arith, division-few (terms_of s.f) (terms_of s.g) d.divide-d.result (omega (arith, d.length.ensures)) d.divide-d.ensures n m),
+      omega (arith, quotient-few (terms_of s.f) (terms_of s.g) d.divide-d.result (omega (arith, d.length.ensures)) d.divide-d.ensures t.in_default.is n c.monic.result c.monic.ensures),
     )
 
-returns-4 : tie.Need-returns-4
+returns-4 : tie.Need-returns
 returns-4 c =
-    let m = c.before in
-    let l = m.before.before.before in
-    let t = l.before.before in
-    let d = t.before.before in
-    let s = d.before.before.before.args in
-    c.later.ensures ∙ freed-done (terms_of s.f) (terms_of s.g) d.divide.result (omega (arith, d.before.before.length.ensures)) d.divide.ensures t.enum-told2.given.1 (omega (arith, l.length2.ensures)) m.monic.result m.monic.ensures
+    let m = c in
+    let l = m in
+    let t = l in
+    let d = t in
+    let s = d.args in
+    c.later.ensures ∙ freed-done (terms_of s.f) (terms_of s.g) d.divide-d.result (omega (arith, d.length.ensures)) d.divide-d.ensures t.in_default.is (omega (arith, l.length-2.ensures)) m.monic.result m.monic.ensures
 
-pub free-of-spec : {M : Type 1} → statement M
-free-of-spec =
+pub free_of_spec : {M : Type 1} → statement M
+free_of_spec =
     tie.close
     (tie.spec
     length-requires

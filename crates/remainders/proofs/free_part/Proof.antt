@@ -21,92 +21,92 @@ zero-requires c κs = search rules
 done-requires : tie.Need-done-requires
 done-requires c κs = search rules
 
-returns : tie.Need-returns
+returns : tie.Need-returns-then-length-eq0
 returns c =
-    let l = c.before.before.before in
-    c.done.ensures ∙ ap (λ (p : Poly). done_with p 0) c.before.zero.ensures ∙ square-none (terms_of l.before.args.f) (omega (arith, l.length.ensures))
+    let l = c in
+    c.done.ensures ∙ ap (λ (p : Poly). done_with p 0) c.zero.ensures ∙ square-none (terms_of l.args.f) (omega (arith, l.length.ensures))
 
 short : (c : tie.Start) → length (terms_of c.args.f) ≤ 32
 short c = within-32 c.args.f.len c.args.f.coeffs (search (rules, long))
 
-some : (c : tie.Else1) → 1 ≤ length (terms_of c.before.before.args.f)
-some c = omega (arith, c.before.length.ensures)
+some : (c : tie.Else-length-eq0) → 1 ≤ length (terms_of c.args.f)
+some c = omega (arith, c.length.ensures)
 
-differentiate-requires : tie.Need-differentiate-requires
+differentiate-requires : tie.Need-differentiate-d-requires
 differentiate-requires c κs = search rules
 
-enum_told : tie.Need-enum-told
+enum_told : tie.Need-enum_told-1
 enum_told c = search rules
 
 refused-requires : tie.Need-refused-requires
 refused-requires c κs = search rules
 
-returns-2 : tie.Need-returns-2
+returns-2 : tie.Need-returns-in-Refused
 returns-2 c =
-    let d = c.before.before.before in
-    c.refused.ensures ∙ derivative-refused (terms_of d.before.before.before.args.f) (some d.before) (short d.before.before.before) d.differentiate.result d.differentiate.ensures _ c.before.enum_told.given.1
+    let d = c in
+    c.refused.ensures ∙ derivative-refused (terms_of d.args.f) (some d.before.before.before) (short d.before.before.before.before.before) d.differentiate-d.result d.differentiate-d.ensures _ c.in-Refused.is
 
-enum-told-2 : tie.Need-enum-told-2
+enum-told-2 : tie.Need-enum_told-in_default
 enum-told-2 c = search rules
 
-greatest-requires : tie.Need-greatest-requires
+greatest-requires : tie.Need-greatest-g-requires
 greatest-requires c κs = search rules
 
-enum-told-3 : tie.Need-enum-told-3
+enum-told-3 : tie.Need-enum_told-in-Refused-og
 enum-told-3 c = search rules
 
-add-refused : tie.Need-overflow-add-refused
+add-refused : tie.Need-overflow_add-d
 add-refused c =
-    let g = c.before.before.before.before in
-    let t = g.before.before in
-    let d = t.before.before in
-    omega (arith, derivative-few (terms_of d.before.before.before.args.f) (some d.before) (short d.before.before.before) d.differentiate.result d.differentiate.ensures, divisor-few (terms_of d.before.before.before.args.f) (some d.before) (short d.before.before.before) d.differentiate.result d.differentiate.ensures t.enum-told2.given.1 g.greatest.result g.greatest.ensures)
+    let g = c in
+    let t = g in
+    let d = t in
+    omega (arith, derivative-few (terms_of d.args.f) (some d.before.before.before.before.before.before.before) (short d.before.before.before.before.before.before.before.before.before) d.differentiate-d.result d.differentiate-d.ensures, divisor-few (terms_of d.args.f) (some d.before.before.before.before.before.before.before) (short d.before.before.before.before.before.before.before.before.before) d.differentiate-d.result d.differentiate-d.ensures t.in_default.is g.greatest-g.result g.greatest-g.ensures)
 
-refused-requires-2 : tie.Need-refused-requires-2
+refused-requires-2 : tie.Need-refused-requires-in-Refused-og
 refused-requires-2 c κs = search rules
 
-returns-3 : tie.Need-returns-3
+returns-3 : tie.Need-returns-in-Refused-og
 returns-3 c =
-    let g = c.before.before.before.before.before in
-    let t = g.before.before in
-    let d = t.before.before in
-    c.refused2.ensures ∙ divisor-refused (terms_of d.before.before.before.args.f) (some d.before) (short d.before.before.before) d.differentiate.result d.differentiate.ensures t.enum-told2.given.1 g.greatest.result g.greatest.ensures _ c.before.before.before.enum-told3.given.1
+    let g = c in
+    let t = g in
+    let d = t in
+    c.refused-in-Refused-og.ensures ∙ divisor-refused (terms_of d.args.f) (some d.before.before.before.before.before.before.before.before) (short d.before.before.before.before.before.before.before.before.before.before) d.differentiate-d.result d.differentiate-d.ensures t.in_default.is g.greatest-g.result g.greatest-g.ensures _ c.in-Refused-og.is
 
-enum-told-4 : tie.Need-enum-told-4
+enum-told-4 : tie.Need-enum_told-in_default-og
 enum-told-4 c = search rules
 
-free-of-requires : tie.Need-free-of-requires
+free-of-requires : tie.Need-free_of-requires
 free-of-requires c κs = search rules
 
-add-later : tie.Need-overflow-add-later
+add-later : tie.Need-overflow_add-d-2
 add-later c =
-    let w = c.before.before in
-    let p = w.before.before in
-    let g = p.before.before in
-    let t = g.before.before in
-    let d = t.before.before in
-    omega (arith, derivative-few (terms_of d.before.before.before.args.f) (some d.before) (short d.before.before.before) d.differentiate.result d.differentiate.ensures, divisor-few (terms_of d.before.before.before.args.f) (some d.before) (short d.before.before.before) d.differentiate.result d.differentiate.ensures t.enum-told2.given.1 g.greatest.result g.greatest.ensures)
+    let w = c in
+    let p = w in
+    let g = p in
+    let t = g in
+    let d = t in
+    omega (arith, derivative-few (terms_of d.args.f) (some d.before.before.before.before.before.before.before.before.before) (short d.before.before.before.before.before.before.before.before.before.before.before) d.differentiate-d.result d.differentiate-d.ensures, divisor-few (terms_of d.args.f) (some d.before.before.before.before.before.before.before.before.before) (short d.before.before.before.before.before.before.before.before.before.before.before) d.differentiate-d.result d.differentiate-d.ensures t.in_default.is g.greatest-g.result g.greatest-g.ensures)
 
 later-requires : tie.Need-later-requires
 later-requires c κs =
-    let w = c.before.before in
-    let p = w.before.before in
-    let g = p.before.before in
-    let t = g.before.before in
-    let d = t.before.before in
-    (omega (arith, derivative-few (terms_of d.before.before.before.args.f) (some d.before) (short d.before.before.before) d.differentiate.result d.differentiate.ensures, divisor-few (terms_of d.before.before.before.args.f) (some d.before) (short d.before.before.before) d.differentiate.result d.differentiate.ensures t.enum-told2.given.1 g.greatest.result g.greatest.ensures), omega (arith, left-few (terms_of d.before.before.before.args.f) (some d.before) (short d.before.before.before) d.differentiate.result d.differentiate.ensures t.enum-told2.given.1 g.greatest.result g.greatest.ensures p.enum-told4.given.1 w.Free-of.result w.Free-of.ensures))
+    let w = c in
+    let p = w in
+    let g = p in
+    let t = g in
+    let d = t in
+    (omega (arith, derivative-few (terms_of d.args.f) (some d.before.before.before.before.before.before.before.before.before) (short d.before.before.before.before.before.before.before.before.before.before.before) d.differentiate-d.result d.differentiate-d.ensures, divisor-few (terms_of d.args.f) (some d.before.before.before.before.before.before.before.before.before) (short d.before.before.before.before.before.before.before.before.before.before.before) d.differentiate-d.result d.differentiate-d.ensures t.in_default.is g.greatest-g.result g.greatest-g.ensures), omega (arith, left-few (terms_of d.args.f) (some d.before.before.before.before.before.before.before.before.before) (short d.before.before.before.before.before.before.before.before.before.before.before) d.differentiate-d.result d.differentiate-d.ensures t.in_default.is g.greatest-g.result g.greatest-g.ensures p.in_default-og.is w.free_of.result w.free_of.ensures))
 
-returns-4 : tie.Need-returns-4
+returns-4 : tie.Need-returns
 returns-4 c =
-    let w = c.before.before.before in
-    let p = w.before.before in
-    let g = p.before.before in
-    let t = g.before.before in
-    let d = t.before.before in
-    c.later.ensures ∙ square-done (terms_of d.before.before.before.args.f) (some d.before) (short d.before.before.before) d.differentiate.result d.differentiate.ensures t.enum-told2.given.1 g.greatest.result g.greatest.ensures p.enum-told4.given.1 w.Free-of.result w.Free-of.ensures
+    let w = c in
+    let p = w in
+    let g = p in
+    let t = g in
+    let d = t in
+    c.later.ensures ∙ square-done (terms_of d.args.f) (some d.before.before.before.before.before.before.before.before.before.before) (short d.before.before.before.before.before.before.before.before.before.before.before.before) d.differentiate-d.result d.differentiate-d.ensures t.in_default.is g.greatest-g.result g.greatest-g.ensures p.in_default-og.is w.free_of.result w.free_of.ensures
 
-pub free-part-spec : {M : Type 1} → statement M
-free-part-spec =
+pub free_part_spec : {M : Type 1} → statement M
+free_part_spec =
     tie.close
     (tie.spec
     length-requires

@@ -23,10 +23,10 @@ scale-requires c κs = search rules
 
 returns : tie.Need-returns
 returns c =
-    let p = c.before.before.before.args.p in
+    let p = c.args.p in
     c.scale.ensures
-    ∙ ap (λ (x : Ratio). answer_of (scaled plain (terms_of p) x 0)) (c.before.inverse.ensures ∙ ap (λ (x : Ratio). ratio_of (inv_of x)) c.before.before.lead.ensures)
+    ∙ ap (λ (x : Ratio). answer_of (scaled plain (terms_of p) x 0)) (c.inverse.ensures ∙ ap (λ (x : Ratio). ratio_of (inv_of x)) c.lead.ensures)
     ∙ ap answer_of (scaled-monic (terms_of p))
 
-pub monic-spec : {M : Type 1} → statement M
-monic-spec = tie.close (tie.spec lead-requires inverse-requires scale-requires returns)
+pub monic_spec : {M : Type 1} → statement M
+monic_spec = tie.close (tie.spec lead-requires inverse-requires scale-requires returns)

@@ -15,8 +15,8 @@ zero-requires-2 c κs = search rules
 
 returns : tie.Need-returns
 returns c =
-    let s = c.before.before.args in
-    ap₂ {C = Division} (λ (p q : Poly). record { outcome = Refused s.why; quotient = p; rest = q; steps = s.steps }) c.before.zero.ensures c.zero2.ensures
+    let s = c.args in
+    ap₂ {C = Division} (λ (p q : Poly). record { outcome = Refused s.why; quotient = p; rest = q; steps = s.steps }) c.zero.ensures c.zero-2.ensures
 
-pub no-division-spec : {M : Type 1} → statement M
-no-division-spec = tie.close (tie.spec zero-requires zero-requires-2 returns)
+pub no_division_spec : {M : Type 1} → statement M
+no_division_spec = tie.close (tie.spec zero-requires zero-requires-2 returns)

@@ -12,7 +12,7 @@ whole-requires : tie.Need-whole-requires
 whole-requires c κs = search rules
 
 returns : tie.Need-returns
-returns c = ap {B = Number} (λ (z : Ratio). record { outcome = Refused CoeffOverflow; value = z; steps = c.before.args.steps }) c.whole.ensures
+returns c = ap {B = Number} (λ (z : Ratio). record { outcome = Refused CoeffOverflow; value = z; steps = c.args.steps }) c.whole.ensures
 
-pub no-number-spec : {M : Type 1} → statement M
-no-number-spec = tie.close (tie.spec whole-requires returns)
+pub no_number_spec : {M : Type 1} → statement M
+no_number_spec = tie.close (tie.spec whole-requires returns)

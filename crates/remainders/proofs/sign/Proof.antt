@@ -9,14 +9,14 @@ use Rattle.remainders.proofs.sign.Tie as tie
 whole-requires : tie.Need-whole-requires
 whole-requires c κs = search rules
 
-whole-requires-2 : tie.Need-whole-requires-2
+whole-requires-2 : tie.Need-whole-requires-else-n-eq0
 whole-requires-2 c κs = search rules
 
-returns : tie.Need-returns
-returns c = c.whole.ensures ∙ rw (eq-eqb (c.before.before.args.n % 2) 0 c.before.if1.true)
+returns : tie.Need-returns-then-n-eq0
+returns c = c.whole.ensures ∙ rw (eq-eqb (c.args.n % 2) 0 c.if-n-eq0.true)
 
-returns-2 : tie.Need-returns-2
-returns-2 c = c.whole2.ensures ∙ rw (ne_eqb (c.before.before.args.n % 2) 0 c.before.if1.false)
+returns-2 : tie.Need-returns-else-n-eq0
+returns-2 c = c.whole-else-n-eq0.ensures ∙ rw (ne_eqb (c.args.n % 2) 0 c.if-n-eq0.false)
 
-pub sign-spec : {M : Type 1} → statement M
-sign-spec = tie.close (tie.spec whole-requires whole-requires-2 returns returns-2)
+pub sign_spec : {M : Type 1} → statement M
+sign_spec = tie.close (tie.spec whole-requires whole-requires-2 returns returns-2)

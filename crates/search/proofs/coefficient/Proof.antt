@@ -13,28 +13,28 @@ use Rattle.search.proofs.coefficient.Tie as tie
 length-requires : tie.Need-length-requires
 length-requires c κs = tt
 
-inside : (c : tie.Then1) → c.before.before.args.i < 32
+inside : (c : tie.Then-i-length) → c.args.i < 32
 inside c =
-    let s = c.before.before.args.t1 in
+    let s = c.args.p in
     let e : length s.coeffs ≡ 32 = search (rules, long) in
-    omega (arith, c.before.length.ensures, within-32 s.len s.coeffs e)
+    omega (arith, c.length.ensures, within-32 s.len s.coeffs e)
 
-mul-result : tie.Need-overflow-mul-result
+mul-result : tie.Need-offset_bounds-p-i
 mul-result c = omega (arith, inside c)
 
-element-copy-out-result : tie.Need-element-copy-out-result
+element-copy-out-result : tie.Need-bounds-p-i
 element-copy-out-result c = omega (arith, inside c)
 
-returns : tie.Need-returns
+returns : tie.Need-returns-then-i-length
 returns c =
-    let t = c.before in
-    let s = t.before.before.args in
-    read-terms s.t1.len s.t1.coeffs s.i past zero_r (omega (arith, t.before.length.ensures))
+    let t = c in
+    let s = t.args in
+    read-terms s.p.len s.p.coeffs s.i past zero_r (omega (arith, t.length.ensures))
 
-returns-2 : tie.Need-returns-2
+returns-2 : tie.Need-returns-else-i-length
 returns-2 c =
-    let s = c.before.before.args in
-    sym (get_or-eq_default (terms_of s.t1) zero_r (omega (arith, c.before.length.ensures)))
+    let s = c.args in
+    sym (get_or-eq_default (terms_of s.p) zero_r (omega (arith, c.length.ensures)))
 
-pub coefficient-spec : {M : Type 1} → statement M
-coefficient-spec = tie.close (tie.spec length-requires mul-result element-copy-out-result returns returns-2)
+pub coefficient_spec : {M : Type 1} → statement M
+coefficient_spec = tie.close (tie.spec length-requires mul-result element-copy-out-result returns returns-2)

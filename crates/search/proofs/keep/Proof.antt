@@ -10,22 +10,22 @@ use borrow.Author.Rules.{rules}
 use Rattle.search.proofs.keep.Statement.{statement}
 use Rattle.search.proofs.keep.Tie as tie
 
-add-t7 : tie.Need-overflow-add-t7
+add-t7 : tie.Need-overflow_add-now
 add-t7 c = search rules
 
 insert-requires : tie.Need-insert-requires
-insert-requires c κs = let s = c.before.before.before in recounted s.args.t s.requires.0 (s.args.t.tried + 1) s.args.steps
+insert-requires c κs = let s = c in recounted s.args.t s.requires.0 (s.args.t.tried + 1) s.args.steps
 
-returns : tie.Need-returns
+returns : tie.Need-returns-then-root
 returns c =
-    let s = c.before.before.before.before.args in
-    c.insert.ensures ∙ ap (λ (b : Bool). tally_of (fine (record { tried = s.t.tried + 1; steps = s.steps }) (kept_if b s.x (kept_brackets s.t)))) (sym c.before.if1.true)
+    let s = c.args in
+    c.insert.ensures ∙ ap (λ (b : Bool). tally_of (fine (record { tried = s.t.tried + 1; steps = s.steps }) (kept_if b s.x (kept_brackets s.t)))) (sym c.if-root.true)
 
-returns-2 : tie.Need-returns-2
+returns-2 : tie.Need-returns-else-root
 returns-2 c =
-    let s = c.before.before.before in
+    let s = c in
     recounted s.args.t s.requires.0 (s.args.t.tried + 1) s.args.steps
-    ∙ ap (λ (b : Bool). tally_of (fine (record { tried = s.args.t.tried + 1; steps = s.args.steps }) (kept_if b s.args.x (kept_brackets s.args.t)))) (sym c.if1.false)
+    ∙ ap (λ (b : Bool). tally_of (fine (record { tried = s.args.t.tried + 1; steps = s.args.steps }) (kept_if b s.args.x (kept_brackets s.args.t)))) (sym c.if-root.false)
 
 pub keep_spec : {M : Type 1} → statement M
 keep_spec = tie.close (tie.spec add-t7 insert-requires returns returns-2)

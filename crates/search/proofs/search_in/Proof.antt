@@ -14,54 +14,54 @@ use borrow.Author.Rules.{rules}
 use Rattle.search.proofs.search_in.Statement.{statement}
 use Rattle.search.proofs.search_in.Tie as tie
 
-coefficient-requires : tie.Need-coefficient-requires
+coefficient-requires : tie.Need-coefficient-constant-requires
 coefficient-requires c κs = tt
 
-integer-factors-requires : tie.Need-integer-factors-requires
+integer-factors-requires : tie.Need-integer_factors-first-requires
 integer-factors-requires c κs = tt
 
-enum_told : tie.Need-enum-told
+enum_told : tie.Need-enum_told-1
 enum_told c = search rules
 
-search-below-requires : tie.Need-search-below-requires
+search-below-requires : tie.Need-search_below-requires
 search-below-requires c κs = tt
 
-enum-known-outcome : tie.Need-enum-known-outcome
+enum-known-outcome : tie.Need-enum_known-outcome
 enum-known-outcome c = search rules
 
-no-roots-requires : tie.Need-no-roots-requires
+no-roots-requires : tie.Need-no_roots-requires
 no-roots-requires c κs = tt
 
 -- the constant term, as it is read
-constant : (c : tie.After-integer-factors) → (c.integer-factors.result ≡ listing_of (get_or (terms_of c.before.before.before.args.p) 0 zero_r).num c.before.before.before.args.budget)
-    × Lists (get_or (terms_of c.before.before.before.args.p) 0 zero_r).num c.before.before.before.args.budget c.integer-factors.result
+constant : (c : tie.After-integer_factors-first) → (c.integer_factors-first.result ≡ listing_of (get_or (terms_of c.args.p) 0 zero_r).num c.args.budget)
+    × Lists (get_or (terms_of c.args.p) 0 zero_r).num c.args.budget c.integer_factors-first.result
 constant c =
-    let d = c.before.before in
-    let s = d.before.args in
-    subst (λ (z : ℤ). (c.integer-factors.result ≡ listing_of z s.budget) × Lists z s.budget c.integer-factors.result)
-    (to_z-of_z {z = d.coefficient.result.num} (record { sfits = c.before.struct_told.given.0.1 }) ∙ ap (λ (r : Ratio). r.num) d.coefficient.ensures)
-    c.integer-factors.ensures
+    let d = c in
+    let s = d.args in
+    subst (λ (z : ℤ). (c.integer_factors-first.result ≡ listing_of z s.budget) × Lists z s.budget c.integer_factors-first.result)
+    (to_z-of_z {w = Rattle.std.proofs.Common.w64} {z = d.coefficient-constant.result.num} (record { sfits = c.struct_told-1.given.0.1 }) ∙ ap (λ (r : Ratio). r.num) d.coefficient-constant.ensures)
+    c.integer_factors-first.ensures
 
-returns : tie.Need-returns
+returns : tie.Need-returns-in-Done
 unfolding searched_in
 returns c =
-    let f = c.before.before.before in
-    let s = f.before.before.before.args in
-    let k = constant f in
-    c.search-below.ensures
-    ∙ listed-done (get_or (terms_of s.p) 0 zero_r).num s.budget (λ ps. searched_below (terms_of s.p) s.zero s.budget ps) f.integer-factors.result k.0 k.1 c.before.enum_told.given.1
+    let f = c in
+    let s = f.args in
+    let k = constant f.before.before in
+    c.search_below.ensures
+    ∙ listed-done (get_or (terms_of s.p) 0 zero_r).num s.budget (λ ps. searched_below (terms_of s.p) s.zero s.budget ps) f.integer_factors-first.result k.0 k.1 c.in-Done.is
 
-returns-2 : tie.Need-returns-2
+returns-2 : tie.Need-returns-in-Refused
 unfolding searched_in
 returns-2 c =
-    let f = c.before.before.before.before in
-    let s = f.before.before.before.args in
-    let k = constant f in
-    c.no-roots.ensures
-    ∙ listed-refused (get_or (terms_of s.p) 0 zero_r).num s.budget (λ ps. searched_below (terms_of s.p) s.zero s.budget ps) f.integer-factors.result k.0 _ c.before.before.outcome.given.1
+    let f = c in
+    let s = f.args in
+    let k = constant f.before.before in
+    c.no_roots.ensures
+    ∙ listed-refused (get_or (terms_of s.p) 0 zero_r).num s.budget (λ ps. searched_below (terms_of s.p) s.zero s.budget ps) f.integer_factors-first.result k.0 _ c.in-Refused.is
 
-pub search-in-spec : {M : Type 1} → statement M
-search-in-spec =
+pub search_in_spec : {M : Type 1} → statement M
+search_in_spec =
     tie.close
     (tie.spec
     coefficient-requires

@@ -14,21 +14,21 @@ use Rattle.search.proofs.share.Tie as tie
 magnitude-requires : tie.Need-magnitude-requires
 magnitude-requires c κs = search rules
 
-div-q : tie.Need-nonzero-div-q
+div-q : tie.Need-nonzero_div-q
 div-q c = search rules
 
-size : (c : tie.After-magnitude) → c.magnitude.result ≡ nat_abs c.before.args.n
-size c = copied-size c.before.args.n c.magnitude.result c.before.ranges.n c.magnitude.ensures
+size : (c : tie.After-magnitude) → c.magnitude.result ≡ nat_abs c.args.n
+size c = copied-size c.args.n c.magnitude.result c.ranges.n c.magnitude.ensures
 
-small : (c : tie.After-magnitude) → c.magnitude.result / c.before.args.d ≤ limit
-small c = le_trans (div-le_self c.magnitude.result c.before.args.d) (omega (arith, size c, c.before.requires.0))
+small : (c : tie.After-magnitude) → c.magnitude.result / c.args.d ≤ limit
+small c = le_trans (div-le_self c.magnitude.result c.args.d) (omega (arith, size c, c.requires.0))
 
-cast-t5 : tie.Need-overflow-cast-t5
-cast-t5 c = fits (pos (c.magnitude.result / c.before.args.d)) (small c)
+cast-t5 : tie.Need-overflow_cast-result
+cast-t5 c = fits (pos (c.magnitude.result / c.args.d)) (small c)
 
 returns : tie.Need-returns
 returns c =
-    ap whole_r (size_back (c.magnitude.result / c.before.args.d) (small c) ∙ ap (λ (n : ℕ). pos (n / c.before.args.d)) (size c))
+    ap whole_r (size_back (c.magnitude.result / c.args.d) (small c) ∙ ap (λ (n : ℕ). pos (n / c.args.d)) (size c))
 
-pub share-spec : {M : Type 1} → statement M
-share-spec = tie.close (tie.spec magnitude-requires div-q cast-t5 returns)
+pub share_spec : {M : Type 1} → statement M
+share_spec = tie.close (tie.spec magnitude-requires div-q cast-t5 returns)

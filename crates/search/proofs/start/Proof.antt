@@ -2,11 +2,11 @@
 use Rattle.search.proofs.start.Statement.{statement}
 use Rattle.search.proofs.start.Tie as tie
 
-returns : tie.Need-returns
-returns c = rw c.if1.true
+returns : tie.Need-returns-then-zero
+returns c = rw c.if-zero.true
 
-returns-2 : tie.Need-returns-2
-returns-2 c = rw c.if1.false
+returns-2 : tie.Need-returns-else-zero
+returns-2 c = rw c.if-zero.false
 
 pub start_spec : {M : Type 1} → statement M
 start_spec = tie.close (tie.spec returns returns-2)

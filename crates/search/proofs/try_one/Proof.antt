@@ -15,74 +15,74 @@ use borrow.Author.Tests.{not-true, not-false}
 use Rattle.search.proofs.try_one.Statement.{statement}
 use Rattle.search.proofs.try_one.Tie as tie
 
-returns : tie.Need-returns
+returns : tie.Need-returns-then-d-eq0
 returns c =
-    let s = c.before in
-    one_none (terms_of s.args.p) s.args.n s.args.d s.args.t s.requires.0 (nil-bits s.args.d s.ranges.d c.if1.true)
+    let s = c in
+    one_none (terms_of s.args.p) s.args.n s.args.d s.args.t s.requires.0 (nil-bits s.args.d s.ranges.d c.if-d-eq0.true)
 
 new-requires : tie.Need-new-requires
 new-requires c κs = tt
 
-enum-known-x : tie.Need-enum-known-x
+enum-known-x : tie.Need-enum_known-x
 enum-known-x c = search rules
 
-enum_told : tie.Need-enum-told
+enum_told : tie.Need-enum_told-1
 enum_told c = search rules
 
 halted-requires : tie.Need-halted-requires
 halted-requires c κs = tt
 
 -- the candidate, of the numbers as they are read
-candidate : (c : tie.After-new) → new_of c.before.before.args.n c.before.before.args.d ≡ c.new.result
+candidate : (c : tie.After-new) → new_of c.args.n c.args.d ≡ c.new.result
 candidate c =
-    let s = c.before.before in
-    sym (c.new.ensures.0 ∙ ap₂ new_of (to_z-of_z {z = s.args.n} s.ranges.n) (to_z-of_z {z = s.args.d} s.ranges.d))
+    let s = c in
+    sym (c.new.ensures.0 ∙ ap₂ new_of (to_z-of_z {w = Rattle.std.proofs.Common.w64} {z = s.args.n} s.ranges.n) (to_z-of_z {w = Rattle.std.proofs.Common.w64} {z = s.args.d} s.ranges.d))
 
-some : (c : tie.Else1) → is_nil c.before.args.d ≡ false
-some c = some_bits c.before.args.d c.before.ranges.d c.if1.false
+some : (c : tie.Else-d-eq0) → is_nil c.args.d ≡ false
+some c = some_bits c.args.d c.ranges.d c.if-d-eq0.false
 
-returns-2 : tie.Need-returns-2
+returns-2 : tie.Need-returns-in_default
 returns-2 c =
-    let m = c.before.before.before in
-    let s = m.before.before in
-    c.halted.ensures ∙ one-refused (terms_of s.args.p) s.args.n s.args.d s.args.t s.requires.0 _ (some m.before) (candidate m ∙ c.before.enum_told.given.1)
+    let m = c in
+    let s = m in
+    c.halted.ensures ∙ one-refused (terms_of s.args.p) s.args.n s.args.d s.args.t s.requires.0 _ (some m.before.before.before) (candidate m.before.before ∙ c.in_default.is)
 
-evaluate-requires : tie.Need-evaluate-requires
-evaluate-requires c κs = c.before.before.before.before.before.requires.2
+evaluate-requires : tie.Need-evaluate-v-requires
+evaluate-requires c κs = c.requires.2
 
-add-halted : tie.Need-overflow-add-halted
+add-halted : tie.Need-overflow_add-t
 add-halted c = search rules
 
-halted-requires-2 : tie.Need-halted-requires-2
+halted-requires-2 : tie.Need-halted-requires-then-not-v
 halted-requires-2 c κs = tt
 
-returns-3 : tie.Need-returns-3
+returns-3 : tie.Need-returns-then-not-v
 returns-3 c =
-    let i = c.before.before in
-    let v = i.before.before in
-    let m = v.before.before.before.before in
-    let s = m.before.before in
-    c.halted2.ensures ∙ one-over (terms_of s.args.p) s.args.n s.args.d s.args.t s.requires.0 _ (some m.before) (candidate m ∙ v.before.before.x.given.1) v.evaluate.result v.evaluate.ensures (not-true _ i.if2.true)
+    let i = c in
+    let v = i in
+    let m = v in
+    let s = m in
+    c.halted-then-not-v.ensures ∙ one-over (terms_of s.args.p) s.args.n s.args.d s.args.t s.requires.0 _ (some m.before.before.before.before.before.before.before) (candidate m.before.before.before.before.before.before ∙ v.in-Done.is) v.evaluate-v.result v.evaluate-v.ensures (not-true _ i.if-not-v.true)
 
-is-zero-requires : tie.Need-is-zero-requires
+is-zero-requires : tie.Need-is_zero-requires
 is-zero-requires c κs = tt
 
 keep-requires : tie.Need-keep-requires
-keep-requires c κs = let s = c.before.before.before.before.before.before.before.before.before.before in (s.requires.0, s.requires.1)
+keep-requires c κs = let s = c in (s.requires.0, s.requires.1)
 
-returns-4 : tie.Need-returns-4
+returns-4 : tie.Need-returns
 returns-4 c =
-    let z = c.before in
-    let i = z.before.before in
-    let v = i.before.before in
-    let m = v.before.before.before.before in
-    let s = m.before.before in
+    let z = c in
+    let i = z in
+    let v = i in
+    let m = v in
+    let s = m in
     c.keep.ensures
-    ∙ ap (λ (b : Bool). tally_of (fine (record { tried = s.args.t.tried + 1; steps = v.evaluate.result.steps }) (kept_if b v.before.before.x.given.0.0 (kept_brackets s.args.t)))) z.is_zero.ensures
-    ∙ one-tried (terms_of s.args.p) s.args.n s.args.d s.args.t s.requires.0 _ (some m.before) (candidate m ∙ v.before.before.x.given.1) v.evaluate.result v.evaluate.ensures (not-false _ i.if2.false)
+    ∙ ap (λ (b : Bool). tally_of (fine (record { tried = s.args.t.tried + 1; steps = v.evaluate-v.result.steps }) (kept_if b v.in-Done.x (kept_brackets s.args.t)))) z.is_zero.ensures
+    ∙ one-tried (terms_of s.args.p) s.args.n s.args.d s.args.t s.requires.0 _ (some m.before.before.before.before.before.before.before.before) (candidate m.before.before.before.before.before.before.before ∙ v.in-Done.is) v.evaluate-v.result v.evaluate-v.ensures (not-false _ i.if-not-v.false)
 
-pub try-one-spec : {M : Type 1} → statement M
-try-one-spec =
+pub try_one_spec : {M : Type 1} → statement M
+try_one_spec =
     tie.close
     (tie.spec
     returns
