@@ -10,46 +10,46 @@ use borrow.Author.Rules.{rules}
 use Rattle.euclid.proofs.as_whole.Statement.{statement}
 use Rattle.euclid.proofs.as_whole.Tie as tie
 
-enum-known-o : tie.Need-enum-known-o
+enum-known-o : tie.Need-enum_known-o
 enum-known-o c = search rules
 
-no-whole-requires : tie.Need-no-whole-requires
+no-whole-requires : tie.Need-no_whole-requires
 no-whole-requires c κs = search rules
 
-enum_told : tie.Need-enum-told
+enum_told : tie.Need-enum_told-1
 enum_told c = search rules
 
 magnitude-requires : tie.Need-magnitude-requires
 magnitude-requires c κs = search rules
 
-no-whole-requires-2 : tie.Need-no-whole-requires-2
+no-whole-requires-2 : tie.Need-no_whole-requires-else-magnitude-eq1
 no-whole-requires-2 c κs = search rules
 
-returns : tie.Need-returns
+returns : tie.Need-returns-in-Refused
 returns c =
-    let n = c.before.before.before.before.before.args.n in
-    c.no_whole.ensures ∙ sym (ap (λ (o : Outcome). whole_from_if o n.value n.steps) c.before.before.o.given.1)
+    let n = c.args.n in
+    c.no_whole.ensures ∙ sym (ap (λ (o : Outcome). whole_from_if o n.value n.steps) c.in-Refused.is)
 
-size : (m : tie.After-magnitude) → m.magnitude.result ≡ nat_abs m.before.before.before.before.before.args.n.value.den
+size : (m : tie.After-magnitude) → m.magnitude.result ≡ nat_abs m.args.n.value.den
 size m =
-    m.magnitude.ensures ∙ ap nat_abs (to_z-of_z {z = m.before.before.before.before.before.args.n.value.den} (record { sfits = m.before.struct_told.given.1.0.1 }))
+    m.magnitude.ensures ∙ ap nat_abs (to_z-of_z {w = Rattle.std.proofs.Common.w64} {z = m.args.n.value.den} (record { sfits = m.struct_told-1.given.1.0.1 }))
 
-returns-2 : tie.Need-returns-2
+returns-2 : tie.Need-returns-then-magnitude-eq1
 returns-2 c =
-    let m = c.before.before in
-    let n = m.before.before.before.before.before.args.n in
-    ap (λ (x : ℤ). whole_if true x n.steps) (to_z-of_z {z = n.value.num} (record { sfits = c.struct-told2.given.0.1 }))
-    ∙ whole-kept n.value n.steps m.magnitude.result (size m) n.outcome m.before.before.enum_told.given.1 c.before.if1.true
+    let m = c in
+    let n = m.args.n in
+    ap (λ (x : ℤ). whole_if true x n.steps) (to_z-of_z {w = Rattle.std.proofs.Common.w64} {z = n.value.num} (record { sfits = c.struct_told-then-magnitude-eq1-1.given.0.1 }))
+    ∙ whole-kept n.value n.steps m.magnitude.result (size m.before.before) n.outcome m.in-Done.is c.if-magnitude-eq1.true
 
-returns-3 : tie.Need-returns-3
+returns-3 : tie.Need-returns-else-magnitude-eq1
 returns-3 c =
-    let m = c.before.before in
-    let n = m.before.before.before.before.before.args.n in
-    whole-refused n.value n.steps m.magnitude.result (size m) n.outcome m.before.before.enum_told.given.1 c.before.if1.false
-    c.no-whole2.result c.no-whole2.ensures
+    let m = c in
+    let n = m.args.n in
+    whole-refused n.value n.steps m.magnitude.result (size m.before.before) n.outcome m.in-Done.is c.if-magnitude-eq1.false
+    c.no_whole-else-magnitude-eq1.result c.no_whole-else-magnitude-eq1.ensures
 
-pub as-whole-spec : {M : Type 1} → statement M
-as-whole-spec =
+pub as_whole_spec : {M : Type 1} → statement M
+as_whole_spec =
     tie.close
     (tie.spec
     enum-known-o

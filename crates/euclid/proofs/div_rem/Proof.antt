@@ -13,11 +13,11 @@ door-requires c κs = tt
 door-requires-2 : tie.Need-door-requires-2
 door-requires-2 c κs = tt
 
-both-requires : tie.Need-both-requires
+both-requires : tie.Need-both-d-requires
 both-requires c κs = tt
 
-enum_told : tie.Need-enum-told
-enum_told c = c.match.keys1
+enum_told : tie.Need-enum_told-1
+enum_told c = c.in-Open-1.keys1
 
 divide-requires : tie.Need-divide-requires
 divide-requires c κs = tt
@@ -25,28 +25,28 @@ divide-requires c κs = tt
 reason-requires : tie.Need-reason-requires
 reason-requires c κs = tt
 
-no-division-requires : tie.Need-no-division-requires
+no-division-requires : tie.Need-no_division-requires
 no-division-requires c κs = tt
 
-gate : (c : tie.After-both) → c.both.result ≡ both (door_of c.before.before.before.args.a) (door_of c.before.before.before.args.b)
-gate c = c.both.ensures ∙ ap₂ both c.before.before.door.ensures c.before.door2.ensures
+gate : (c : tie.After-both-d) → c.both-d.result ≡ both (door_of c.args.a) (door_of c.args.b)
+gate c = c.both-d.ensures ∙ ap₂ both c.door.ensures c.door-2.ensures
 
-returns : tie.Need-returns
+returns : tie.Need-returns-in-Open
 returns c =
-    let g = c.before.before.before in
-    let s = g.before.before.before.args in
-    division-both s.a s.b c.divide.result (open-entered g.both.result _ (gate g) c.before.enum_told.given.1 (λ why. no_division why 0) _ c.divide.result c.divide.ensures)
+    let g = c in
+    let s = g.args in
+    division-both s.a s.b c.divide.result (open-entered g.both-d.result _ (gate g.before.before) c.in-Open.is (λ why. no_division why 0) _ c.divide.result c.divide.ensures)
 
-returns-2 : tie.Need-returns-2
+returns-2 : tie.Need-returns-in_default
 returns-2 c =
-    let w = c.before in
-    let g = w.before.before in
-    let s = g.before.before.before.args in
-    division-both s.a s.b c.no-division.result
-    (shut-entered g.both.result _ (gate g) w.before.match.keys2 w.reason.result w.reason.ensures (λ why. no_division why 0) _ c.no-division.result c.no-division.ensures)
+    let w = c in
+    let g = w in
+    let s = g.args in
+    division-both s.a s.b c.no_division.result
+    (shut-entered g.both-d.result _ (gate g.before.before.before) w.in_default.in_default-own.keys2 w.reason.result w.reason.ensures (λ why. no_division why 0) _ c.no_division.result c.no_division.ensures)
 
-pub div-rem-spec : {M : Type 1} → statement M
-div-rem-spec =
+pub div_rem_spec : {M : Type 1} → statement M
+div_rem_spec =
     tie.close
     (tie.spec
     door-requires

@@ -13,45 +13,45 @@ door-requires c κs = tt
 door-requires-2 : tie.Need-door-requires-2
 door-requires-2 c κs = tt
 
-both-requires : tie.Need-both-requires
+both-requires : tie.Need-both-d-requires
 both-requires c κs = tt
 
-enum_told : tie.Need-enum-told
-enum_told c = c.match.keys1
+enum_told : tie.Need-enum_told-1
+enum_told c = c.in-Open-1.keys1
 
-resultant-ratio-requires : tie.Need-resultant-ratio-requires
+resultant-ratio-requires : tie.Need-resultant_ratio-requires
 resultant-ratio-requires c κs = tt
 
-as-whole-requires : tie.Need-as-whole-requires
+as-whole-requires : tie.Need-as_whole-requires
 as-whole-requires c κs = tt
 
 reason-requires : tie.Need-reason-requires
 reason-requires c κs = tt
 
-no-whole-requires : tie.Need-no-whole-requires
+no-whole-requires : tie.Need-no_whole-requires
 no-whole-requires c κs = tt
 
-gate : (c : tie.After-both) → c.both.result ≡ both (door_of c.before.before.before.args.a) (door_of c.before.before.before.args.b)
-gate c = c.both.ensures ∙ ap₂ both c.before.before.door.ensures c.before.door2.ensures
+gate : (c : tie.After-both-d) → c.both-d.result ≡ both (door_of c.args.a) (door_of c.args.b)
+gate c = c.both-d.ensures ∙ ap₂ both c.door.ensures c.door-2.ensures
 
-returns : tie.Need-returns
+returns : tie.Need-returns-in-Open
 returns c =
-    let g = c.before.before.before.before in
-    let s = g.before.before.before.args in
-    resultant-both s.a s.b c.as-whole.result
-    (open-entered g.both.result _ (gate g) c.before.before.enum_told.given.1 (λ why. no_whole why 0) _ c.as-whole.result
-    (c.as-whole.ensures ∙ ap whole_from c.before.resultant-ratio.ensures))
+    let g = c in
+    let s = g.args in
+    resultant-both s.a s.b c.as_whole.result
+    (open-entered g.both-d.result _ (gate g.before.before.before) c.in-Open.is (λ why. no_whole why 0) _ c.as_whole.result
+    (c.as_whole.ensures ∙ ap whole_from c.resultant_ratio.ensures))
 
-returns-2 : tie.Need-returns-2
+returns-2 : tie.Need-returns-in_default
 returns-2 c =
-    let w = c.before in
-    let g = w.before.before in
-    let s = g.before.before.before.args in
+    let w = c in
+    let g = w in
+    let s = g.args in
     resultant-both s.a s.b c.no_whole.result
-    (shut-entered g.both.result _ (gate g) w.before.match.keys2 w.reason.result w.reason.ensures (λ why. no_whole why 0) _ c.no_whole.result c.no_whole.ensures)
+    (shut-entered g.both-d.result _ (gate g.before.before.before) w.in_default.in_default-own.keys2 w.reason.result w.reason.ensures (λ why. no_whole why 0) _ c.no_whole.result c.no_whole.ensures)
 
-pub resultant-spec : {M : Type 1} → statement M
-resultant-spec =
+pub resultant_spec : {M : Type 1} → statement M
+resultant_spec =
     tie.close
     (tie.spec
     door-requires

@@ -7,29 +7,29 @@ use borrow.Author.Rules.{rules}
 use Rattle.euclid.proofs.resultant_steps.Statement.{statement}
 use Rattle.euclid.proofs.resultant_steps.Tie as tie
 
-ordered-steps-requires : tie.Need-ordered-steps-requires
+ordered-steps-requires : tie.Need-ordered_steps-requires
 ordered-steps-requires c κs = search rules
 
-add-result : tie.Need-overflow-add-result
-add-result c = let s = c.before.before.before.before.args in omega (arith, ordered-few s.m s.n (omega arith) (omega arith))
+add-result : tie.Need-overflow_add-result
+add-result c = let s = c.args in omega (arith, ordered-few s.m s.n (omega arith) (omega arith))
 
-ordered-steps-requires-2 : tie.Need-ordered-steps-requires-2
+ordered-steps-requires-2 : tie.Need-ordered_steps-requires-else-n-m
 ordered-steps-requires-2 c κs = search rules
 
-returns : tie.Need-returns
+returns : tie.Need-returns-then-n-eq0
 returns c = search rules
 
-returns-2 : tie.Need-returns-2
-returns-2 c = let s = c.before.before.args in resultant-constant s.n s.m c.before.if1.false c.if2.true
+returns-2 : tie.Need-returns-then-m-eq0
+returns-2 c = let s = c.args in resultant-constant s.n s.m c.if-n-eq0.false c.if-m-eq0.true
 
-returns-3 : tie.Need-returns-3
-returns-3 c = let s = c.before.before.before.before.args in ap (λ k. k + 1) c.ordered-steps.ensures ∙ resultant-lower s.n s.m c.before.before.before.if1.false c.before.before.if2.false (omega arith)
+returns-3 : tie.Need-returns-then-n-m
+returns-3 c = let s = c.args in ap (λ k. k + 1) c.ordered_steps.ensures ∙ resultant-lower s.n s.m c.if-n-eq0.false c.if-m-eq0.false (omega arith)
 
-returns-4 : tie.Need-returns-4
-returns-4 c = let s = c.before.before.before.before.args in c.ordered-steps2.ensures ∙ resultant-higher s.n s.m c.before.before.before.if1.false c.before.before.if2.false (omega arith)
+returns-4 : tie.Need-returns-else-n-m
+returns-4 c = let s = c.args in c.ordered_steps-else-n-m.ensures ∙ resultant-higher s.n s.m c.if-n-eq0.false c.if-m-eq0.false (omega arith)
 
-pub resultant-steps-spec : {M : Type 1} → statement M
-resultant-steps-spec =
+pub resultant_steps_spec : {M : Type 1} → statement M
+resultant_steps_spec =
     tie.close
     (tie.spec
     ordered-steps-requires

@@ -28,7 +28,7 @@ write-decimal-below t =
     (falls 1 write-decimal-kinds.ps ◌<◌ μ-write-decimal t)
     write-decimal.Pre
 
-write-decimal-cast-put : (t : ℕ) → write-decimal-lts.Need-overflow-cast-put (
+write-decimal-cast-put : (t : ℕ) → write-decimal-lts.Need-overflow_cast-n (
   put_reads.Asked,
   put_reads.Learnt,
   write-decimal-below t,
@@ -36,7 +36,7 @@ write-decimal-cast-put : (t : ℕ) → write-decimal-lts.Need-overflow-cast-put 
 ) (write-decimal-at t) write-decimal.Post
 write-decimal-cast-put t c = omega arith
 
-write-decimal-add-put : (t : ℕ) → write-decimal-lts.Need-overflow-add-put (
+write-decimal-add-put : (t : ℕ) → write-decimal-lts.Need-overflow_add-n (
   put_reads.Asked,
   put_reads.Learnt,
   write-decimal-below t,
@@ -52,7 +52,7 @@ write-decimal-put-requires : (t : ℕ) → write-decimal-lts.Need-put-requires (
 ) (write-decimal-at t) write-decimal.Post
 write-decimal-put-requires t c κs = tt
 
-write-decimal-write-decimal-requires : (t : ℕ) → write-decimal-lts.Need-write-decimal-requires (
+write-decimal-write-decimal-requires : (t : ℕ) → write-decimal-lts.Need-write_decimal-next-requires (
   put_reads.Asked,
   put_reads.Learnt,
   write-decimal-below t,
@@ -60,7 +60,7 @@ write-decimal-write-decimal-requires : (t : ℕ) → write-decimal-lts.Need-writ
 ) (write-decimal-at t) write-decimal.Post
 write-decimal-write-decimal-requires t c κs = (omega arith, tt)
 
-write-decimal-cast-put-2 : (t : ℕ) → write-decimal-lts.Need-overflow-cast-put-2 (
+write-decimal-cast-put-2 : (t : ℕ) → write-decimal-lts.Need-overflow_cast-n-else-n-lt10 (
   put_reads.Asked,
   put_reads.Learnt,
   write-decimal-below t,
@@ -68,7 +68,7 @@ write-decimal-cast-put-2 : (t : ℕ) → write-decimal-lts.Need-overflow-cast-pu
 ) (write-decimal-at t) write-decimal.Post
 write-decimal-cast-put-2 t c = omega arith
 
-write-decimal-add-put-2 : (t : ℕ) → write-decimal-lts.Need-overflow-add-put-2 (
+write-decimal-add-put-2 : (t : ℕ) → write-decimal-lts.Need-overflow_add-n-else-n-lt10 (
   put_reads.Asked,
   put_reads.Learnt,
   write-decimal-below t,
@@ -76,7 +76,7 @@ write-decimal-add-put-2 : (t : ℕ) → write-decimal-lts.Need-overflow-add-put-
 ) (write-decimal-at t) write-decimal.Post
 write-decimal-add-put-2 t c = omega arith
 
-write-decimal-put-requires-2 : (t : ℕ) → write-decimal-lts.Need-put-requires-2 (
+write-decimal-put-requires-2 : (t : ℕ) → write-decimal-lts.Need-put-requires-else-n-lt10 (
   put_reads.Asked,
   put_reads.Learnt,
   write-decimal-below t,
@@ -84,40 +84,40 @@ write-decimal-put-requires-2 : (t : ℕ) → write-decimal-lts.Need-put-requires
 ) (write-decimal-at t) write-decimal.Post
 write-decimal-put-requires-2 t c κs = tt
 
-write-decimal-same-length : (t : ℕ) → write-decimal-lts.Need-same-length (
+write-decimal-same-length : (t : ℕ) → write-decimal-lts.Need-shape_of-out-then-n-lt10 (
   put_reads.Asked,
   put_reads.Learnt,
   write-decimal-below t,
   write-decimal.Post,
 ) (write-decimal-at t) write-decimal.Post
-write-decimal-same-length t c = c.before.before.put.auto.0
+write-decimal-same-length t c = c.put.auto.out
 
-write-decimal-returns : (t : ℕ) → write-decimal-lts.Need-returns (
+write-decimal-returns : (t : ℕ) → write-decimal-lts.Need-returns-then-n-lt10 (
   put_reads.Asked,
   put_reads.Learnt,
   write-decimal-below t,
   write-decimal.Post,
 ) (write-decimal-at t) write-decimal.Post
-write-decimal-returns t c = lays-as _ _ _ _ (sym (decimal-one c.before.before.before.before.before.before.args.n (omega arith))) c.before.before.put.ensures
+write-decimal-returns t c = lays-as _ _ _ _ (sym (decimal-one c.args.n (omega arith))) c.put.ensures
 
-write-decimal-same-length-2 : (t : ℕ) → write-decimal-lts.Need-same-length-2 (
+write-decimal-same-length-2 : (t : ℕ) → write-decimal-lts.Need-shape_of-out-else-n-lt10 (
   put_reads.Asked,
   put_reads.Learnt,
   write-decimal-below t,
   write-decimal.Post,
 ) (write-decimal-at t) write-decimal.Post
-write-decimal-same-length-2 t c = c.before.before.put2.auto.0 ∙ c.before.before.before.before.before.before.write-decimal.auto.1.0
+write-decimal-same-length-2 t c = c.put-else-n-lt10.auto.out ∙ c.write_decimal-next.auto.out
 
-write-decimal-returns-2 : (t : ℕ) → write-decimal-lts.Need-returns-2 (
+write-decimal-returns-2 : (t : ℕ) → write-decimal-lts.Need-returns-else-n-lt10 (
   put_reads.Asked,
   put_reads.Learnt,
   write-decimal-below t,
   write-decimal.Post,
 ) (write-decimal-at t) write-decimal.Post
-write-decimal-returns-2 t c = lays-as _ _ _ _ (sym (decimal-more c.before.before.before.before.before.before.before.before.before.before.args.n (omega arith) (omega arith))) (lays-then _ _ _ _ c.before.before.before.before.before.before.write-decimal.ensures c.before.before.put2.ensures)
+write-decimal-returns-2 t c = lays-as _ _ _ _ (sym (decimal-more c.args.n (omega arith) (omega arith))) (lays-then _ _ _ _ c.write_decimal-next.ensures c.put-else-n-lt10.ensures)
 
-pub +write-decimal-spec : {M : Type 1} → statement M
-+write-decimal-spec = close μ-write-decimal λ t. write-decimal-lts.spec (
+pub +write_decimal_spec : {M : Type 1} → statement M
++write_decimal_spec = close μ-write-decimal λ t. write-decimal-lts.spec (
   put_reads.Asked,
   put_reads.Learnt,
   write-decimal-below t,

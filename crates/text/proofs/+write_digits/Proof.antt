@@ -31,7 +31,7 @@ write-digits-below t =
     (falls 1 write-digits-kinds.ps ◌<◌ μ-write-digits t)
     write-digits.Pre
 
-write-digits-sub-write-digits : (t : ℕ) → write-digits-lts.Need-overflow-sub-write-digits (
+write-digits-sub-write-digits : (t : ℕ) → write-digits-lts.Need-overflow_sub-k (
   write-digits-below t,
   write-digits.Post,
   hex-digit-reads.Asked,
@@ -41,7 +41,7 @@ write-digits-sub-write-digits : (t : ℕ) → write-digits-lts.Need-overflow-sub
 ) (write-digits-at t) write-digits.Post
 write-digits-sub-write-digits t c = omega arith
 
-write-digits-write-digits-requires : (t : ℕ) → write-digits-lts.Need-write-digits-requires (
+write-digits-write-digits-requires : (t : ℕ) → write-digits-lts.Need-write_digits-next-requires (
   write-digits-below t,
   write-digits.Post,
   hex-digit-reads.Asked,
@@ -51,7 +51,7 @@ write-digits-write-digits-requires : (t : ℕ) → write-digits-lts.Need-write-d
 ) (write-digits-at t) write-digits.Post
 write-digits-write-digits-requires t c κs = (omega arith, tt)
 
-write-digits-hex-digit-requires : (t : ℕ) → write-digits-lts.Need-hex-digit-requires (
+write-digits-hex-digit-requires : (t : ℕ) → write-digits-lts.Need-hex_digit-requires (
   write-digits-below t,
   write-digits.Post,
   hex-digit-reads.Asked,
@@ -71,7 +71,7 @@ write-digits-put-requires : (t : ℕ) → write-digits-lts.Need-put-requires (
 ) (write-digits-at t) write-digits.Post
 write-digits-put-requires t c κs = tt
 
-write-digits-returns : (t : ℕ) → write-digits-lts.Need-returns (
+write-digits-returns : (t : ℕ) → write-digits-lts.Need-returns-then-k-eq0 (
   write-digits-below t,
   write-digits.Post,
   hex-digit-reads.Asked,
@@ -80,10 +80,10 @@ write-digits-returns : (t : ℕ) → write-digits-lts.Need-returns (
   put_reads.Learnt,
 ) (write-digits-at t) write-digits.Post
 write-digits-returns t c =
-    let s = c.before.before.args in
-    lays-as _ _ _ _ (sym (ap (λ k. hex_in k s.bits) c.if1.true ∙ hex-none s.bits)) (lays-none s.at s.out.now)
+    let s = c.args in
+    lays-as _ _ _ _ (sym (ap (λ k. hex_in k s.bits) c.if-k-eq0.true ∙ hex-none s.bits)) (lays-none s.at s.out.now)
 
-write-digits-same-length : (t : ℕ) → write-digits-lts.Need-same-length (
+write-digits-same-length : (t : ℕ) → write-digits-lts.Need-shape_of-out (
   write-digits-below t,
   write-digits.Post,
   hex-digit-reads.Asked,
@@ -91,9 +91,9 @@ write-digits-same-length : (t : ℕ) → write-digits-lts.Need-same-length (
   put_reads.Asked,
   put_reads.Learnt,
 ) (write-digits-at t) write-digits.Post
-write-digits-same-length t c = c.before.before.put.auto.0 ∙ c.before.before.before.before.before.before.before.write-digits.auto.1.1.0
+write-digits-same-length t c = c.put.auto.out ∙ c.write_digits-next.auto.out
 
-write-digits-returns-2 : (t : ℕ) → write-digits-lts.Need-returns-2 (
+write-digits-returns-2 : (t : ℕ) → write-digits-lts.Need-returns-else-k-eq0 (
   write-digits-below t,
   write-digits.Post,
   hex-digit-reads.Asked,
@@ -102,13 +102,13 @@ write-digits-returns-2 : (t : ℕ) → write-digits-lts.Need-returns-2 (
   put_reads.Learnt,
 ) (write-digits-at t) write-digits.Post
 write-digits-returns-2 t c =
-    let w = c.before.before.before.before.before.before.before in
-    let s = w.before.before.before.before.args in
-    lays-as _ _ _ _ (ap (λ d. hex_in (s.k - 1) (s.bits / 16) ++ (d ∷ [])) c.before.before.before.hex-digit.ensures ∙ sym (hex-more s.k s.bits (omega arith)))
-    (lays-then _ _ _ _ w.write-digits.ensures c.before.before.put.ensures)
+    let w = c in
+    let s = w.args in
+    lays-as _ _ _ _ (ap (λ d. hex_in (s.k - 1) (s.bits / 16) ++ (d ∷ [])) c.hex_digit.ensures ∙ sym (hex-more s.k s.bits (omega arith)))
+    (lays-then _ _ _ _ w.write_digits-next.ensures c.put.ensures)
 
-pub +write-digits-spec : {M : Type 1} → statement M
-+write-digits-spec = close μ-write-digits λ t. write-digits-lts.spec (
+pub +write_digits_spec : {M : Type 1} → statement M
++write_digits_spec = close μ-write-digits λ t. write-digits-lts.spec (
   write-digits-below t,
   write-digits.Post,
   hex-digit-reads.Asked,

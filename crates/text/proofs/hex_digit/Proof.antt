@@ -5,24 +5,24 @@ use Rattle.text.proofs.Hex.{digit_low, digit-high}
 use Rattle.text.proofs.hex_digit.Statement.{statement}
 use Rattle.text.proofs.hex_digit.Tie as tie
 
-cast-result : tie.Need-overflow-cast-result
+cast-result : tie.Need-overflow_cast-result
 cast-result c = search rules
 
-add-result : tie.Need-overflow-add-result
+add-result : tie.Need-overflow_add-result
 add-result c = search rules
 
-cast-result-2 : tie.Need-overflow-cast-result-2
+cast-result-2 : tie.Need-overflow_cast-result-else-d-lt10
 cast-result-2 c = search rules
 
-add-result-2 : tie.Need-overflow-add-result-2
+add-result-2 : tie.Need-overflow_add-result-else-d-lt10
 add-result-2 c = search rules
 
-returns : tie.Need-returns
-returns c = sym (digit_low c.before.args.d c.if1.true)
+returns : tie.Need-returns-then-d-lt10
+returns c = sym (digit_low c.args.d c.if-d-lt10.true)
 
-returns-2 : tie.Need-returns-2
-returns-2 c = sym (digit-high c.before.args.d c.if1.false)
+returns-2 : tie.Need-returns-else-d-lt10
+returns-2 c = sym (digit-high c.args.d c.if-d-lt10.false)
 
-pub hex-digit-spec : {M : Type 1} → statement M
-hex-digit-spec =
+pub hex_digit_spec : {M : Type 1} → statement M
+hex_digit_spec =
     tie.close (tie.spec cast-result add-result cast-result-2 add-result-2 returns returns-2)

@@ -6,30 +6,30 @@ use Rattle.text.proofs.Numbers.{nan-told, number-told}
 use Rattle.text.proofs.write_float.Statement.{statement}
 use Rattle.text.proofs.write_float.Tie as tie
 
-write-hex-requires : tie.Need-write-hex-requires
+write-hex-requires : tie.Need-write_hex-requires
 write-hex-requires c κs = tt
 
-float-to-bits-write-hex : tie.Need-float-to-bits-write-hex
-float-to-bits-write-hex c = number-told c.before.before.args.x c.if1.false
+float-to-bits-write-hex : tie.Need-float_to_bits-x
+float-to-bits-write-hex c = number-told c.args.x c.if-x.false
 
-write-hex-requires-2 : tie.Need-write-hex-requires-2
+write-hex-requires-2 : tie.Need-write_hex-requires-else-x
 write-hex-requires-2 c κs = tt
 
-same_length : tie.Need-same-length
+same_length : tie.Need-shape_of-out-then-x
 same_length c = search rules
 
-returns : tie.Need-returns
-returns c = lays-as _ _ _ _ (nan-told c.before.before.before.before.before.before.args.x c.before.before.before.before.if1.true) c.before.before.write-hex.ensures
+returns : tie.Need-returns-then-x
+returns c = lays-as _ _ _ _ (nan-told c.args.x c.if-x.true) c.write_hex.ensures
 
-same-length-2 : tie.Need-same-length-2
+same-length-2 : tie.Need-shape_of-out-else-x
 same-length-2 c = search rules
 
-returns-2 : tie.Need-returns-2
+returns-2 : tie.Need-returns-else-x
 unfolding float_text
-returns-2 c = c.before.before.write-hex2.ensures
+returns-2 c = c.write_hex-else-x.ensures
 
-pub write-float-spec : {M : Type 1} → statement M
-write-float-spec =
+pub write_float_spec : {M : Type 1} → statement M
+write_float_spec =
     tie.close
     (tie.spec
     write-hex-requires

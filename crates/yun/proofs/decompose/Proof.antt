@@ -16,49 +16,49 @@ length-requires c κs = tt
 nothing-requires : tie.Need-nothing-requires
 nothing-requires c κs = tt
 
-returns : tie.Need-returns
+returns : tie.Need-returns-then-length-eq0
 returns c =
-    let l = c.before.before in
-    c.nothing.ensures ∙ ap decomposition_of (zero-none (terms_of l.before.args.f) (omega (arith, l.length.ensures)))
+    let l = c in
+    c.nothing.ensures ∙ ap decomposition_of (zero-none (terms_of l.args.f) (omega (arith, l.length.ensures)))
 
-monic-requires : tie.Need-monic-requires
+monic-requires : tie.Need-monic-m-requires
 monic-requires c κs = tt
 
-enum-known-om : tie.Need-enum-known-om
-enum-known-om c = c.match.keys1
+enum-known-om : tie.Need-enum_known-om
+enum-known-om c = c.in-Refused-1.keys1
 
 refused-requires : tie.Need-refused-requires
 refused-requires c κs = tt
 
-returns-2 : tie.Need-returns-2
+returns-2 : tie.Need-returns-in-Refused
 returns-2 c =
-    let o = c.before.before in
-    let m = o.before.before in
-    let l = m.before.before in
-    let s = l.before.args in
-    c.refused.ensures ∙ ap decomposition_of (monic-refused (terms_of s.f) (omega (arith, l.length.ensures)) m.monic.result m.monic.ensures _ o.om.given.1)
+    let o = c in
+    let m = o in
+    let l = m in
+    let s = l.args in
+    c.refused.ensures ∙ ap decomposition_of (monic-refused (terms_of s.f) (omega (arith, l.length.ensures)) m.monic-m.result m.monic-m.ensures _ o.in-Refused.is)
 
-enum_told : tie.Need-enum-told
-enum_told c = c.match.keys2
+enum_told : tie.Need-enum_told-1
+enum_told c = c.in_default-1.keys2
 
 split-requires : tie.Need-split-requires
 split-requires c κs =
-    let t = c.before in
-    let m = t.before.before in
-    let l = m.before.before in
-    let s = l.before.args in
-    answer-poly m.monic.result (monic plain (terms_of s.f) 0) m.monic.ensures
+    let t = c in
+    let m = t in
+    let l = m in
+    let s = l.args in
+    answer-poly m.monic-m.result (monic plain (terms_of s.f) 0) m.monic-m.ensures
 
-returns-3 : tie.Need-returns-3
+returns-3 : tie.Need-returns
 returns-3 c =
-    let t = c.before.before in
-    let m = t.before.before in
-    let l = m.before.before in
-    let s = l.before.args in
-    c.split.ensures ∙ ap decomposition_of (monic-done (terms_of s.f) (omega (arith, l.length.ensures)) m.monic.result m.monic.ensures t.enum_told.given.1)
+    let t = c in
+    let m = t in
+    let l = m in
+    let s = l.args in
+    c.split.ensures ∙ ap decomposition_of (monic-done (terms_of s.f) (omega (arith, l.length.ensures)) m.monic-m.result m.monic-m.ensures t.in_default.is)
 
-pub decompose-spec : {M : Type 1} → statement M
-decompose-spec =
+pub decompose_spec : {M : Type 1} → statement M
+decompose_spec =
     tie.close
     (tie.spec
     length-requires

@@ -8,36 +8,36 @@ use Rattle.yun.proofs.CodeTurn.{ended-refused, ended-done, stops, lasts}
 use Rattle.yun.proofs.end.Statement.{statement}
 use Rattle.yun.proofs.end.Tie as tie
 
-monic-requires : tie.Need-monic-requires
+monic-requires : tie.Need-monic-m-requires
 monic-requires c κs = tt
 
-enum-known-o : tie.Need-enum-known-o
-enum-known-o c = c.match.keys1
+enum-known-o : tie.Need-enum_known-o
+enum-known-o c = c.in-Refused-1.keys1
 
 stop-requires : tie.Need-stop-requires
 stop-requires c κs = tt
 
-returns : tie.Need-returns
+returns : tie.Need-returns-in-Refused
 returns c =
-    let o = c.before.before in
-    let m = o.before.before in
-    let b = terms_of m.before.args.b in
-    stops (λ i. ended i b) c.stop.result _ c.stop.ensures (λ i found. ended-refused i b found m.monic.result m.monic.ensures _ o.o.given.1)
+    let o = c in
+    let m = o in
+    let b = terms_of m.args.b in
+    stops (λ i. ended i b) c.stop.result _ c.stop.ensures (λ i found. ended-refused i b found m.monic-m.result m.monic-m.ensures _ o.in-Refused.is)
 
-enum_told : tie.Need-enum-told
-enum_told c = c.match.keys2
+enum_told : tie.Need-enum_told-1
+enum_told c = c.in_default-1.keys2
 
 over-requires : tie.Need-over-requires
 over-requires c κs = tt
 
-returns-2 : tie.Need-returns-2
+returns-2 : tie.Need-returns
 returns-2 c =
-    let t = c.before.before in
-    let m = t.before.before in
-    let b = terms_of m.before.args.b in
-    lasts (λ i. ended i b) c.over.result m.monic.result.poly c.over.ensures (answer-poly m.monic.result (monic plain b 0) m.monic.ensures) (λ i found. ended-done i b found m.monic.result m.monic.ensures t.enum_told.given.1)
+    let t = c in
+    let m = t in
+    let b = terms_of m.args.b in
+    lasts (λ i. ended i b) c.over.result m.monic-m.result.poly c.over.ensures (answer-poly m.monic-m.result (monic plain b 0) m.monic-m.ensures) (λ i found. ended-done i b found m.monic-m.result m.monic-m.ensures t.in_default.is)
 
-pub end-spec : {M : Type 1} → statement M
-end-spec =
+pub end_spec : {M : Type 1} → statement M
+end_spec =
     tie.close
     (tie.spec monic-requires enum-known-o stop-requires returns enum_told over-requires returns-2)

@@ -17,18 +17,18 @@ zero-requires c κs = tt
 done-requires : tie.Need-done-requires
 done-requires c κs = tt
 
-returns : tie.Need-returns
+returns : tie.Need-returns-then-length-lt2
 returns c =
-    let l = c.before.before.before in
-    c.done.ensures ∙ ap (λ (p : Poly). done_with p 0) c.before.zero.ensures ∙ factor-none (terms_of l.before.args.a) (omega (arith, l.length.ensures))
+    let l = c in
+    c.done.ensures ∙ ap (λ (p : Poly). done_with p 0) c.zero.ensures ∙ factor-none (terms_of l.args.a) (omega (arith, l.length.ensures))
 
 monic-requires : tie.Need-monic-requires
 monic-requires c κs = tt
 
-returns-2 : tie.Need-returns-2
+returns-2 : tie.Need-returns
 returns-2 c =
-    let l = c.before.before in
-    c.monic.ensures ∙ ap answer_of (factor-some (terms_of l.before.args.a) (omega (arith, l.length.ensures)))
+    let l = c in
+    c.monic.ensures ∙ ap answer_of (factor-some (terms_of l.args.a) (omega (arith, l.length.ensures)))
 
-pub factor-of-spec : {M : Type 1} → statement M
-factor-of-spec = tie.close (tie.spec length-requires zero-requires done-requires returns monic-requires returns-2)
+pub factor_of_spec : {M : Type 1} → statement M
+factor_of_spec = tie.close (tie.spec length-requires zero-requires done-requires returns monic-requires returns-2)

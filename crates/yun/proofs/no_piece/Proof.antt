@@ -11,5 +11,5 @@ zero-requires c κs = tt
 returns : tie.Need-returns
 returns c = ap {B = Piece} (λ (p : Poly). record { poly = p; times = 0 }) c.zero.ensures
 
-pub no-piece-spec : {M : Type 1} → statement M
-no-piece-spec = tie.close (tie.spec zero-requires returns)
+pub no_piece_spec : {M : Type 1} → statement M
+no_piece_spec = tie.close (tie.spec zero-requires returns)

@@ -7,11 +7,11 @@ use Rattle.yun.specs.declared.Decomposition.{Decomposition}
 use Rattle.yun.proofs.nothing.Statement.{statement}
 use Rattle.yun.proofs.nothing.Tie as tie
 
-no-piece-requires : tie.Need-no-piece-requires
+no-piece-requires : tie.Need-no_piece-requires
 no-piece-requires c κs = tt
 
 returns : tie.Need-returns
-returns c = ap {B = Decomposition} (λ (p : Piece). record { outcome = O.Done; pieces = replicate 32 p; len = 0 }) c.no-piece.ensures
+returns c = ap {B = Decomposition} (λ (p : Piece). record { outcome = O.Done; pieces = replicate 32 p; len = 0 }) c.no_piece.ensures
 
-pub nothing-spec : {M : Type 1} → statement M
-nothing-spec = tie.close (tie.spec no-piece-requires returns)
+pub nothing_spec : {M : Type 1} → statement M
+nothing_spec = tie.close (tie.spec no-piece-requires returns)

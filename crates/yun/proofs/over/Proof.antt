@@ -14,8 +14,8 @@ zero-requires-2 c κs = tt
 
 returns : tie.Need-returns
 returns c =
-    let s = c.before.before.args in
-    ap₂ {C = Round} (λ (p q : Poly). record { outcome = s.outcome; whole = s.whole; more = false; factor = s.factor; b = p; c = q }) c.before.zero.ensures c.zero2.ensures
+    let s = c.args in
+    ap₂ {C = Round} (λ (p q : Poly). record { outcome = s.outcome; whole = s.whole; more = false; factor = s.factor; b = p; c = q }) c.zero.ensures c.zero-2.ensures
 
-pub over-spec : {M : Type 1} → statement M
-over-spec = tie.close (tie.spec zero-requires zero-requires-2 returns)
+pub over_spec : {M : Type 1} → statement M
+over_spec = tie.close (tie.spec zero-requires zero-requires-2 returns)

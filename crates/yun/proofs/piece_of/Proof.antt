@@ -11,18 +11,18 @@ use Rattle.yun.proofs.piece_of.Tie as tie
 length-requires : tie.Need-length-requires
 length-requires c κs = tt
 
-no-piece-requires : tie.Need-no-piece-requires
+no-piece-requires : tie.Need-no_piece-requires
 no-piece-requires c κs = tt
 
-returns : tie.Need-returns
+returns : tie.Need-returns-then-length-eq0
 returns c =
-    let s = c.before.before.before.args in
-    c.no-piece.ensures ∙ piece-none (terms_of s.p) s.i (omega (arith, c.before.before.length.ensures))
+    let s = c.args in
+    c.no_piece.ensures ∙ piece-none (terms_of s.p) s.i (omega (arith, c.length.ensures))
 
-returns-2 : tie.Need-returns-2
+returns-2 : tie.Need-returns-else-length-eq0
 returns-2 c =
-    let s = c.before.before.args in
-    ap {B = Piece} (λ (p : Poly). record { poly = p; times = s.i }) c.before.before.requires ∙ piece-some (terms_of s.p) s.i (omega (arith, c.before.length.ensures))
+    let s = c.args in
+    ap {B = Piece} (λ (p : Poly). record { poly = p; times = s.i }) c.requires ∙ piece-some (terms_of s.p) s.i (omega (arith, c.length.ensures))
 
-pub piece-of-spec : {M : Type 1} → statement M
-piece-of-spec = tie.close (tie.spec length-requires no-piece-requires returns returns-2)
+pub piece_of_spec : {M : Type 1} → statement M
+piece_of_spec = tie.close (tie.spec length-requires no-piece-requires returns returns-2)

@@ -7,11 +7,11 @@ use Rattle.yun.specs.declared.Decomposition.{Decomposition}
 use Rattle.yun.proofs.refused.Statement.{statement}
 use Rattle.yun.proofs.refused.Tie as tie
 
-no-piece-requires : tie.Need-no-piece-requires
+no-piece-requires : tie.Need-no_piece-requires
 no-piece-requires c κs = tt
 
 returns : tie.Need-returns
-returns c = ap {B = Decomposition} (λ (p : Piece). record { outcome = O.Refused c.before.args.why; pieces = replicate 32 p; len = 0 }) c.no-piece.ensures
+returns c = ap {B = Decomposition} (λ (p : Piece). record { outcome = O.Refused c.args.why; pieces = replicate 32 p; len = 0 }) c.no_piece.ensures
 
-pub refused-spec : {M : Type 1} → statement M
-refused-spec = tie.close (tie.spec no-piece-requires returns)
+pub refused_spec : {M : Type 1} → statement M
+refused_spec = tie.close (tie.spec no-piece-requires returns)

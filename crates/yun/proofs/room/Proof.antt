@@ -8,11 +8,11 @@ use Rattle.yun.proofs.room.Tie as tie
 length-requires : tie.Need-length-requires
 length-requires c κs = tt
 
-returns : tie.Need-returns
-returns c = room-none (terms_of c.before.before.args.p) (omega (arith, c.before.length.ensures))
+returns : tie.Need-returns-then-length-eq0
+returns c = room-none (terms_of c.args.p) (omega (arith, c.length.ensures))
 
-returns-2 : tie.Need-returns-2
-returns-2 c = room-some (terms_of c.before.before.args.p) (omega (arith, c.before.length.ensures))
+returns-2 : tie.Need-returns-else-length-eq0
+returns-2 c = room-some (terms_of c.args.p) (omega (arith, c.length.ensures))
 
-pub room-spec : {M : Type 1} → statement M
-room-spec = tie.close (tie.spec length-requires returns returns-2)
+pub room_spec : {M : Type 1} → statement M
+room_spec = tie.close (tie.spec length-requires returns returns-2)

@@ -15,143 +15,143 @@ use Rattle.yun.proofs.CodeRounds.{Going, going-none, going_end, going-held, goin
 use Rattle.yun.proofs.rounds.Statement.{statement}
 use Rattle.yun.proofs.rounds.Tie as tie
 
-abbrev invariant-loop : tie.invariant-loop
+abbrev invariant-loop : tie.invariant-loop-i
 invariant-loop f n u₀ v₀ found₀ i₀ u v found i = (n ≡ length (terms_of f)) × (n ≤ 32) × Going n (terms_of u₀) (terms_of v₀) i (terms_of u) (terms_of v) found
 
-abbrev decreases-loop : tie.decreases-loop
+abbrev decreases-loop : tie.decreases-loop-i
 decreases-loop f n u₀ v₀ found₀ i₀ u v found i = n - i
 
-length-requires : tie.Need-length-requires invariant-loop decreases-loop
+length-requires : tie.Need-length-n-requires invariant-loop decreases-loop
 length-requires c κs = tt
 
-nothing-requires : tie.Need-nothing-requires invariant-loop decreases-loop
+nothing-requires : tie.Need-nothing-found-requires invariant-loop decreases-loop
 nothing-requires c κs = tt
 
 short : (c : tie.Start invariant-loop decreases-loop) → length (terms_of c.args.f) ≤ 32
 short c = within-32 c.args.f.len c.args.f.coeffs (search (rules, long))
 
-loop-holds : tie.Need-loop-init invariant-loop decreases-loop
+loop-holds : tie.Need-loop-i-init invariant-loop decreases-loop
 loop-holds c =
-    let s = c.before.before.args in
-    (c.before.length.ensures, omega (arith, c.before.length.ensures, short c.before.before), going-none c.before.length.result (terms_of s.b) (terms_of s.c) c.nothing.result c.nothing.ensures)
+    let s = c.args in
+    (c.length-n.ensures, omega (arith, c.length-n.ensures, short c.before.before), going-none c.length-n.result (terms_of s.b) (terms_of s.c) c.nothing-found.result c.nothing-found.ensures)
 
-turn-requires : tie.Need-turn-requires invariant-loop decreases-loop
+turn-requires : tie.Need-turn-t-requires invariant-loop decreases-loop
 turn-requires c κs = tt
 
-enum-known-o : tie.Need-enum-known-o invariant-loop decreases-loop
-enum-known-o c = c.match.keys1
+enum-known-o : tie.Need-enum_known-o invariant-loop decreases-loop
+enum-known-o c = c.in-Refused-1.keys1
 
 refused-requires : tie.Need-refused-requires invariant-loop decreases-loop
 refused-requires c κs = tt
 
-returns : tie.Need-returns invariant-loop decreases-loop
+returns : tie.Need-returns-in-Refused invariant-loop decreases-loop
 returns c =
-    let l = c.before.before.before.before.before.before in
-    let s = l.before.before.before.args in
-    let n = l.before.before.length.result in
-    c.refused.ensures ∙ ap (λ g. decomposition_of (found_or (terms_of s.f) g)) (going-refused n (terms_of s.b) (terms_of s.c) l.loop.i (terms_of l.loop.u) (terms_of l.loop.v) l.loop.found l.loop.invariant.2 (omega arith) c.before.before.before.before.turn.result c.before.before.before.before.turn.ensures _ c.before.before.o.given.1) ∙ ap (λ k. decomposition_of (found_or (terms_of s.f) (rounds k 1 (terms_of s.b) (terms_of s.c) []))) l.loop.invariant.0
+    let l = c in
+    let s = l.args in
+    let n = l.length-n.result in
+    c.refused.ensures ∙ ap (λ g. decomposition_of (found_or (terms_of s.f) g)) (going-refused n (terms_of s.b) (terms_of s.c) l.loop-i.i (terms_of l.loop-i.u) (terms_of l.loop-i.v) l.loop-i.found l.loop-i.invariant.2 (omega arith) c.turn-t.result c.turn-t.ensures _ c.in-Refused.is) ∙ ap (λ k. decomposition_of (found_or (terms_of s.f) (rounds k 1 (terms_of s.b) (terms_of s.c) []))) l.loop-i.invariant.0
 
-enum_told : tie.Need-enum-told invariant-loop decreases-loop
-enum_told c = c.match.keys2
+enum_told : tie.Need-enum_told-1 invariant-loop decreases-loop
+enum_told c = c.in_default-1.keys2
 
 whole-requires : tie.Need-whole-requires invariant-loop decreases-loop
 whole-requires c κs =
-    let l = c.before.before.before.before.before in
-    let s = l.before.before.before.args in
-    let n = l.before.before.length.result in
-    l.before.before.before.requires
+    let l = c in
+    let s = l.args in
+    let n = l.length-n.result in
+    l.requires
 
-returns-2 : tie.Need-returns-2 invariant-loop decreases-loop
+returns-2 : tie.Need-returns-then-t invariant-loop decreases-loop
 returns-2 c =
-    let l = c.before.before.before.before.before.before in
-    let s = l.before.before.before.args in
-    let n = l.before.before.length.result in
-    c.whole.ensures ∙ ap (λ g. decomposition_of (found_or (terms_of s.f) g)) (going-whole n (terms_of s.b) (terms_of s.c) l.loop.i (terms_of l.loop.u) (terms_of l.loop.v) l.loop.found l.loop.invariant.2 (omega arith) c.before.before.before.before.turn.result c.before.before.before.before.turn.ensures c.before.before.enum_told.given.1 c.before.if1.true) ∙ ap (λ k. decomposition_of (found_or (terms_of s.f) (rounds k 1 (terms_of s.b) (terms_of s.c) []))) l.loop.invariant.0
+    let l = c in
+    let s = l.args in
+    let n = l.length-n.result in
+    c.whole.ensures ∙ ap (λ g. decomposition_of (found_or (terms_of s.f) g)) (going-whole n (terms_of s.b) (terms_of s.c) l.loop-i.i (terms_of l.loop-i.u) (terms_of l.loop-i.v) l.loop-i.found l.loop-i.invariant.2 (omega arith) c.turn-t.result c.turn-t.ensures c.in_default.is c.if-t.true) ∙ ap (λ k. decomposition_of (found_or (terms_of s.f) (rounds k 1 (terms_of s.b) (terms_of s.c) []))) l.loop-i.invariant.0
 
-add-piece-of : tie.Need-overflow-add-piece-of invariant-loop decreases-loop
+add-piece-of : tie.Need-overflow_add-i invariant-loop decreases-loop
 add-piece-of c =
-    let l = c.before.before.before.before.before.before in
-    let s = l.before.before.before.args in
-    let n = l.before.before.length.result in
-    omega (arith, l.loop.invariant.1)
+    let l = c in
+    let s = l.args in
+    let n = l.length-n.result in
+    omega (arith, l.loop-i.invariant.1)
 
-piece-of-requires : tie.Need-piece-of-requires invariant-loop decreases-loop
-piece-of-requires c κs = c.before.before.before.before.turn.ensures.padded
+piece-of-requires : tie.Need-piece_of-requires invariant-loop decreases-loop
+piece-of-requires c κs = c.turn-t.ensures.padded
 
-mul-t19 : tie.Need-overflow-mul-t19 invariant-loop decreases-loop
+mul-t19 : tie.Need-offset_bounds-found-k invariant-loop decreases-loop
 mul-t19 c =
-    let l = c.before.before.before.before.before.before.before in
-    let s = l.before.before.before.args in
-    let n = l.before.before.length.result in
-    omega (arith, (held-room l.loop.found (going-held n (terms_of s.b) (terms_of s.c) l.loop.i (terms_of l.loop.u) (terms_of l.loop.v) l.loop.found l.loop.invariant.2 (omega arith) l.loop.invariant.1)))
+    let l = c in
+    let s = l.args in
+    let n = l.length-n.result in
+    omega (arith, (held-room l.loop-i.found (going-held n (terms_of s.b) (terms_of s.c) l.loop-i.i (terms_of l.loop-i.u) (terms_of l.loop-i.v) l.loop-i.found l.loop-i.invariant.2 (omega arith) l.loop-i.invariant.1)))
 
-element-set-from-found : tie.Need-element-set-from-found invariant-loop decreases-loop
+element-set-from-found : tie.Need-bounds-found-k invariant-loop decreases-loop
 element-set-from-found c =
-    let l = c.before.before.before.before.before.before.before in
-    let s = l.before.before.before.args in
-    let n = l.before.before.length.result in
-    held-room l.loop.found (going-held n (terms_of s.b) (terms_of s.c) l.loop.i (terms_of l.loop.u) (terms_of l.loop.v) l.loop.found l.loop.invariant.2 (omega arith) l.loop.invariant.1)
+    let l = c in
+    let s = l.args in
+    let n = l.length-n.result in
+    held-room l.loop-i.found (going-held n (terms_of s.b) (terms_of s.c) l.loop-i.i (terms_of l.loop-i.u) (terms_of l.loop-i.v) l.loop-i.found l.loop-i.invariant.2 (omega arith) l.loop-i.invariant.1)
 
 room-requires : tie.Need-room-requires invariant-loop decreases-loop
 room-requires c κs = tt
 
-add-found : tie.Need-overflow-add-found invariant-loop decreases-loop
+add-found : tie.Need-overflow_add-found invariant-loop decreases-loop
 add-found c =
-    let l = c.before.before.before.before.before.before.before.before in
-    let s = l.before.before.before.args in
-    let n = l.before.before.length.result in
-    omega (arith, (held-room l.loop.found (going-held n (terms_of s.b) (terms_of s.c) l.loop.i (terms_of l.loop.u) (terms_of l.loop.v) l.loop.found l.loop.invariant.2 (omega arith) l.loop.invariant.1)), c.room.ensures, room-few (terms_of c.before.before.before.before.before.before.turn.result.factor))
+    let l = c in
+    let s = l.args in
+    let n = l.length-n.result in
+    omega (arith, (held-room l.loop-i.found (going-held n (terms_of s.b) (terms_of s.c) l.loop-i.i (terms_of l.loop-i.u) (terms_of l.loop-i.v) l.loop-i.found l.loop-i.invariant.2 (omega arith) l.loop-i.invariant.1)), c.room.ensures, room-few (terms_of c.turn-t.result.factor))
 
-whole-requires-2 : tie.Need-whole-requires-2 invariant-loop decreases-loop
+whole-requires-2 : tie.Need-whole-requires-then-found-eq0 invariant-loop decreases-loop
 whole-requires-2 c κs =
-    let l = c.before.before.before.before.before.before.before.before.before.before.before in
-    let s = l.before.before.before.args in
-    let n = l.before.before.length.result in
-    l.before.before.before.requires
+    let l = c in
+    let s = l.args in
+    let n = l.length-n.result in
+    l.requires
 
-returns-3 : tie.Need-returns-3 invariant-loop decreases-loop
+returns-3 : tie.Need-returns-then-found-eq0 invariant-loop decreases-loop
 returns-3 c =
-    let l = c.before.before.before.before.before.before.before.before.before.before.before.before in
-    let s = l.before.before.before.args in
-    let n = l.before.before.length.result in
-    c.whole2.ensures ∙ going-empty n (terms_of s.b) (terms_of s.c) l.loop.i (terms_of l.loop.u) (terms_of l.loop.v) l.loop.found l.loop.invariant.2 (omega (arith, c.before.before.before.before.before.before.before.before.before.before.before.loop-test.true)) c.before.before.before.before.before.before.before.before.before.before.turn.result c.before.before.before.before.before.before.before.before.before.before.turn.ensures c.before.before.before.before.before.before.before.before.enum_told.given.1 c.before.before.before.before.before.before.before.if1.false l.loop.invariant.1 c.before.before.before.before.before.piece_of.result c.before.before.before.before.room.result c.before.before.before.before.before.piece_of.ensures c.before.before.before.before.room.ensures (terms_of s.f) (not-true _ c.before.before.if2.true) (omega (arith, c.before.if3.true)) ∙ ap (λ k. decomposition_of (found_or (terms_of s.f) (rounds k 1 (terms_of s.b) (terms_of s.c) []))) l.loop.invariant.0
+    let l = c in
+    let s = l.args in
+    let n = l.length-n.result in
+    c.whole-then-found-eq0.ensures ∙ going-empty n (terms_of s.b) (terms_of s.c) l.loop-i.i (terms_of l.loop-i.u) (terms_of l.loop-i.v) l.loop-i.found l.loop-i.invariant.2 (omega (arith, c.loop-i-test.true)) c.turn-t.result c.turn-t.ensures c.in_default.is c.if-t.false l.loop-i.invariant.1 c.piece_of.result c.room.result c.piece_of.ensures c.room.ensures (terms_of s.f) (not-true _ c.if-not-t.true) (omega (arith, c.if-found-eq0.true)) ∙ ap (λ k. decomposition_of (found_or (terms_of s.f) (rounds k 1 (terms_of s.b) (terms_of s.c) []))) l.loop-i.invariant.0
 
-returns-4 : tie.Need-returns-4 invariant-loop decreases-loop
+returns-4 : tie.Need-returns-then-not-t invariant-loop decreases-loop
 returns-4 c =
-    let l = c.before.before.before.before.before.before.before.before.before.before.before in
-    let s = l.before.before.before.args in
-    let n = l.before.before.length.result in
-    going-over n (terms_of s.b) (terms_of s.c) l.loop.i (terms_of l.loop.u) (terms_of l.loop.v) l.loop.found l.loop.invariant.2 (omega arith) c.before.before.before.before.before.before.before.before.before.turn.result c.before.before.before.before.before.before.before.before.before.turn.ensures c.before.before.before.before.before.before.before.enum_told.given.1 c.before.before.before.before.before.before.if1.false l.loop.invariant.1 c.before.before.before.before.piece_of.result c.before.before.before.room.result c.before.before.before.before.piece_of.ensures c.before.before.before.room.ensures (terms_of s.f) (not-true _ c.before.if2.true) (omega (arith, c.if3.false)) ∙ ap (λ k. decomposition_of (found_or (terms_of s.f) (rounds k 1 (terms_of s.b) (terms_of s.c) []))) l.loop.invariant.0
+    let l = c in
+    let s = l.args in
+    let n = l.length-n.result in
+    going-over n (terms_of s.b) (terms_of s.c) l.loop-i.i (terms_of l.loop-i.u) (terms_of l.loop-i.v) l.loop-i.found l.loop-i.invariant.2 (omega arith) c.turn-t.result c.turn-t.ensures c.in_default.is c.if-t.false l.loop-i.invariant.1 c.piece_of.result c.room.result c.piece_of.ensures c.room.ensures (terms_of s.f) (not-true _ c.if-not-t.true) (omega (arith, c.if-found-eq0.false)) ∙ ap (λ k. decomposition_of (found_or (terms_of s.f) (rounds k 1 (terms_of s.b) (terms_of s.c) []))) l.loop-i.invariant.0
 
-add-i : tie.Need-overflow-add-i invariant-loop decreases-loop
+add-i : tie.Need-overflow_add-i-in-loop-i invariant-loop decreases-loop
 add-i c = omega arith
 
-loop-less : tie.Need-loop-smaller invariant-loop decreases-loop
+loop-less : tie.Need-loop-i-smaller invariant-loop decreases-loop
 loop-less c = omega arith
 
-loop-again : tie.Need-loop-preserved invariant-loop decreases-loop
+loop-again : tie.Need-loop-i-preserved invariant-loop decreases-loop
 loop-again c =
-    let l = c.before.before.before.before.before.before.before.before.before.before.before.before in
-    let s = l.before.before.before.args in
-    let n = l.before.before.length.result in
-    (l.loop.invariant.0, l.loop.invariant.1, going_on n (terms_of s.b) (terms_of s.c) l.loop.i (terms_of l.loop.u) (terms_of l.loop.v) l.loop.found l.loop.invariant.2 (omega arith) c.before.before.before.before.before.before.before.before.before.before.turn.result c.before.before.before.before.before.before.before.before.before.before.turn.ensures c.before.before.before.before.before.before.before.before.enum_told.given.1 c.before.before.before.before.before.before.before.if1.false l.loop.invariant.1 c.before.before.before.before.before.piece_of.result c.before.before.before.before.room.result c.before.before.before.before.before.piece_of.ensures c.before.before.before.before.room.ensures (not-false _ c.before.before.if2.false))
+    let l = c in
+    let s = l.args in
+    let n = l.length-n.result in
+    (l.loop-i.invariant.0, l.loop-i.invariant.1, going_on n (terms_of s.b) (terms_of s.c) l.loop-i.i (terms_of l.loop-i.u) (terms_of l.loop-i.v) l.loop-i.found l.loop-i.invariant.2 (omega arith) c.turn-t.result c.turn-t.ensures c.in_default.is c.if-t.false l.loop-i.invariant.1 c.piece_of.result c.room.result c.piece_of.ensures c.room.ensures (not-false _ c.if-not-t.false))
 
-whole-requires-3 : tie.Need-whole-requires-3 invariant-loop decreases-loop
+whole-requires-3 : tie.Need-whole-requires-2 invariant-loop decreases-loop
 whole-requires-3 c κs =
-    let l = c.before in
-    let s = l.before.before.before.args in
-    let n = l.before.before.length.result in
-    l.before.before.before.requires
+    let l = c in
+    let s = l.args in
+    let n = l.length-n.result in
+    l.requires
 
-returns-5 : tie.Need-returns-5 invariant-loop decreases-loop
+returns-5 : tie.Need-returns invariant-loop decreases-loop
 returns-5 c =
-    let l = c.before.before in
-    let s = l.before.before.before.args in
-    let n = l.before.before.length.result in
-    c.whole3.ensures ∙ ap (λ g. decomposition_of (found_or (terms_of s.f) g)) (going_end n (terms_of s.b) (terms_of s.c) l.loop.i (terms_of l.loop.u) (terms_of l.loop.v) l.loop.found l.loop.invariant.2 (omega arith)) ∙ ap (λ k. decomposition_of (found_or (terms_of s.f) (rounds k 1 (terms_of s.b) (terms_of s.c) []))) l.loop.invariant.0
+    let l = c in
+    let s = l.args in
+    let n = l.length-n.result in
+    c.whole-2.ensures ∙ ap (λ g. decomposition_of (found_or (terms_of s.f) g)) (going_end n (terms_of s.b) (terms_of s.c) l.loop-i.i (terms_of l.loop-i.u) (terms_of l.loop-i.v) l.loop-i.found l.loop-i.invariant.2 (omega arith)) ∙ ap (λ k. decomposition_of (found_or (terms_of s.f) (rounds k 1 (terms_of s.b) (terms_of s.c) []))) l.loop-i.invariant.0
 
-pub rounds-spec : {M : Type 1} → statement M
-rounds-spec =
+pub rounds_spec : {M : Type 1} → statement M
+rounds_spec =
     tie.close
     (tie.spec
     invariant-loop

@@ -14,7 +14,7 @@ over-requires : tie.Need-over-requires
 over-requires c κs = tt
 
 returns : tie.Need-returns
-returns c = c.over.ensures ∙ ap (λ (p : Poly). over_with O.Done true p) c.before.zero.ensures
+returns c = c.over.ensures ∙ ap (λ (p : Poly). over_with O.Done true p) c.zero.ensures
 
-pub stay-whole-spec : {M : Type 1} → statement M
-stay-whole-spec = tie.close (tie.spec zero-requires over-requires returns)
+pub stay_whole_spec : {M : Type 1} → statement M
+stay_whole_spec = tie.close (tie.spec zero-requires over-requires returns)

@@ -14,7 +14,7 @@ over-requires : tie.Need-over-requires
 over-requires c κs = tt
 
 returns : tie.Need-returns
-returns c = c.over.ensures ∙ ap (λ (p : Poly). over_with (O.Refused c.before.before.args.why) false p) c.before.zero.ensures
+returns c = c.over.ensures ∙ ap (λ (p : Poly). over_with (O.Refused c.args.why) false p) c.zero.ensures
 
-pub stop-spec : {M : Type 1} → statement M
-stop-spec = tie.close (tie.spec zero-requires over-requires returns)
+pub stop_spec : {M : Type 1} → statement M
+stop_spec = tie.close (tie.spec zero-requires over-requires returns)

@@ -21,53 +21,53 @@ zero-requires c κs = tt
 over-requires : tie.Need-over-requires
 over-requires c κs = tt
 
-returns : tie.Need-returns
+returns : tie.Need-returns-then-length-lt2
 returns c =
-    let l = c.before.before.before in
-    let s = l.before.args in
-    lasts (λ i. turn_of i (terms_of s.b) (terms_of s.c)) c.over.result (poly_of []) (c.over.ensures ∙ ap (λ (p : Poly). over_with O.Done false p) c.before.zero.ensures) refl (λ i found. turn-constant i (terms_of s.b) (terms_of s.c) found (omega (arith, l.length.ensures)))
+    let l = c in
+    let s = l.args in
+    lasts (λ i. turn_of i (terms_of s.b) (terms_of s.c)) c.over.result (poly_of []) (c.over.ensures ∙ ap (λ (p : Poly). over_with O.Done false p) c.zero.ensures) refl (λ i found. turn-constant i (terms_of s.b) (terms_of s.c) found (omega (arith, l.length.ensures)))
 
-differentiate-requires : tie.Need-differentiate-requires
+differentiate-requires : tie.Need-differentiate-db-requires
 differentiate-requires c κs = tt
 
-enum-known-ob : tie.Need-enum-known-ob
-enum-known-ob c = c.match.keys1
+enum-known-ob : tie.Need-enum_known-ob
+enum-known-ob c = c.in-Refused-1.keys1
 
 stop-requires : tie.Need-stop-requires
 stop-requires c κs = tt
 
-returns-2 : tie.Need-returns-2
+returns-2 : tie.Need-returns-in-Refused
 returns-2 c =
-    let o = c.before.before in
-    let d = o.before.before in
-    let l = d.before.before in
-    let s = l.before.args in
-    stops (λ i. turn_of i (terms_of s.b) (terms_of s.c)) c.stop.result _ c.stop.ensures (λ i found. slope-refused i (terms_of s.b) (terms_of s.c) found (omega (arith, l.length.ensures)) d.differentiate.result d.differentiate.ensures _ o.ob.given.1)
+    let o = c in
+    let d = o in
+    let l = d in
+    let s = l.args in
+    stops (λ i. turn_of i (terms_of s.b) (terms_of s.c)) c.stop.result _ c.stop.ensures (λ i found. slope-refused i (terms_of s.b) (terms_of s.c) found (omega (arith, l.length.ensures)) d.differentiate-db.result d.differentiate-db.ensures _ o.in-Refused.is)
 
-enum_told : tie.Need-enum-told
-enum_told c = c.match.keys2
+enum_told : tie.Need-enum_told-1
+enum_told c = c.in_default-1.keys2
 
-zip-requires : tie.Need-zip-requires
+zip-requires : tie.Need-zip-diff-requires
 zip-requires c κs = tt
 
-enum-known-od : tie.Need-enum-known-od
-enum-known-od c = c.match2.keys1
+enum-known-od : tie.Need-enum_known-od
+enum-known-od c = c.in-Refused-od-1.keys1
 
-stop-requires-2 : tie.Need-stop-requires-2
+stop-requires-2 : tie.Need-stop-requires-in-Refused-od
 stop-requires-2 c κs = tt
 
-returns-3 : tie.Need-returns-3
+returns-3 : tie.Need-returns-in-Refused-od
 returns-3 c =
-    let o = c.before.before in
-    let z = o.before.before in
-    let t = z.before.before in
-    let d = t.before.before in
-    let l = d.before.before in
-    let s = l.before.args in
-    stops (λ i. turn_of i (terms_of s.b) (terms_of s.c)) c.stop2.result _ c.stop2.ensures (λ i found. difference-refused i (terms_of s.b) (terms_of s.c) found (omega (arith, l.length.ensures)) d.differentiate.result d.differentiate.ensures t.enum_told.given.1 z.zip.result z.zip.ensures _ o.od.given.1)
+    let o = c in
+    let z = o in
+    let t = z in
+    let d = t in
+    let l = d in
+    let s = l.args in
+    stops (λ i. turn_of i (terms_of s.b) (terms_of s.c)) c.stop-in-Refused-od.result _ c.stop-in-Refused-od.ensures (λ i found. difference-refused i (terms_of s.b) (terms_of s.c) found (omega (arith, l.length.ensures)) d.differentiate-db.result d.differentiate-db.ensures t.in_default.is z.zip-diff.result z.zip-diff.ensures _ o.in-Refused-od.is)
 
-enum-told-2 : tie.Need-enum-told-2
-enum-told-2 c = c.match2.keys2
+enum-told-2 : tie.Need-enum_told-in_default-od
+enum-told-2 c = c.in_default-od-1.keys2
 
 length-requires-2 : tie.Need-length-requires-2
 length-requires-2 c κs = tt
@@ -75,57 +75,57 @@ length-requires-2 c κs = tt
 end-requires : tie.Need-end-requires
 end-requires c κs = tt
 
-returns-4 : tie.Need-returns-4
+returns-4 : tie.Need-returns-then-length-eq0
 returns-4 c =
-    let k = c.before.before in
-    let u = k.before.before in
-    let z = u.before.before in
-    let t = z.before.before in
-    let d = t.before.before in
-    let l = d.before.before in
-    let s = l.before.args in
-    record { is = λ i found. c.end.ensures.is i found ∙ turn_last i (terms_of s.b) (terms_of s.c) found (omega (arith, l.length.ensures)) d.differentiate.result d.differentiate.ensures t.enum_told.given.1 z.zip.result z.zip.ensures u.enum-told2.given.1 (omega (arith, k.length2.ensures)); padded = c.end.ensures.padded }
+    let k = c in
+    let u = k in
+    let z = u in
+    let t = z in
+    let d = t in
+    let l = d in
+    let s = l.args in
+    record { is = λ i found. c.end.ensures.is i found ∙ turn_last i (terms_of s.b) (terms_of s.c) found (omega (arith, l.length.ensures)) d.differentiate-db.result d.differentiate-db.ensures t.in_default.is z.zip-diff.result z.zip-diff.ensures u.in_default-od.is (omega (arith, k.length-2.ensures)); padded = c.end.ensures.padded }
 
-greatest-requires : tie.Need-greatest-requires
+greatest-requires : tie.Need-greatest-g-requires
 greatest-requires c κs = tt
 
-enum-known-og : tie.Need-enum-known-og
-enum-known-og c = c.match3.keys1
+enum-known-og : tie.Need-enum_known-og
+enum-known-og c = c.in-Refused-og-1.keys1
 
-stop-requires-3 : tie.Need-stop-requires-3
+stop-requires-3 : tie.Need-stop-requires-in-Refused-og
 stop-requires-3 c κs = tt
 
-returns-5 : tie.Need-returns-5
+returns-5 : tie.Need-returns-in-Refused-og
 returns-5 c =
-    let o = c.before.before in
-    let g = o.before.before in
-    let k = g.before.before in
-    let u = k.before.before in
-    let z = u.before.before in
-    let t = z.before.before in
-    let d = t.before.before in
-    let l = d.before.before in
-    let s = l.before.args in
-    stops (λ i. turn_of i (terms_of s.b) (terms_of s.c)) c.stop3.result _ c.stop3.ensures (λ i found. gcd-refused i (terms_of s.b) (terms_of s.c) found (omega (arith, l.length.ensures)) d.differentiate.result d.differentiate.ensures t.enum_told.given.1 z.zip.result z.zip.ensures u.enum-told2.given.1 (omega (arith, k.length2.ensures)) g.greatest.result g.greatest.ensures _ o.og.given.1)
+    let o = c in
+    let g = o in
+    let k = g in
+    let u = k in
+    let z = u in
+    let t = z in
+    let d = t in
+    let l = d in
+    let s = l.args in
+    stops (λ i. turn_of i (terms_of s.b) (terms_of s.c)) c.stop-in-Refused-og.result _ c.stop-in-Refused-og.ensures (λ i found. gcd-refused i (terms_of s.b) (terms_of s.c) found (omega (arith, l.length.ensures)) d.differentiate-db.result d.differentiate-db.ensures t.in_default.is z.zip-diff.result z.zip-diff.ensures u.in_default-od.is (omega (arith, k.length-2.ensures)) g.greatest-g.result g.greatest-g.ensures _ o.in-Refused-og.is)
 
-enum-told-3 : tie.Need-enum-told-3
-enum-told-3 c = c.match3.keys2
+enum-told-3 : tie.Need-enum_told-in_default-og
+enum-told-3 c = c.in_default-og-1.keys2
 
 cut-requires : tie.Need-cut-requires
 cut-requires c κs = tt
 
-returns-6 : tie.Need-returns-6
+returns-6 : tie.Need-returns
 returns-6 c =
-    let v = c.before.before in
-    let g = v.before.before in
-    let k = g.before.before in
-    let u = k.before.before in
-    let z = u.before.before in
-    let t = z.before.before in
-    let d = t.before.before in
-    let l = d.before.before in
-    let s = l.before.args in
-    record { is = λ i found. c.cut.ensures.is i found ∙ gcd-done i (terms_of s.b) (terms_of s.c) found (omega (arith, l.length.ensures)) d.differentiate.result d.differentiate.ensures t.enum_told.given.1 z.zip.result z.zip.ensures u.enum-told2.given.1 (omega (arith, k.length2.ensures)) g.greatest.result g.greatest.ensures v.enum-told3.given.1; padded = c.cut.ensures.padded }
+    let v = c in
+    let g = v in
+    let k = g in
+    let u = k in
+    let z = u in
+    let t = z in
+    let d = t in
+    let l = d in
+    let s = l.args in
+    record { is = λ i found. c.cut.ensures.is i found ∙ gcd-done i (terms_of s.b) (terms_of s.c) found (omega (arith, l.length.ensures)) d.differentiate-db.result d.differentiate-db.ensures t.in_default.is z.zip-diff.result z.zip-diff.ensures u.in_default-od.is (omega (arith, k.length-2.ensures)) g.greatest-g.result g.greatest-g.ensures v.in_default-og.is; padded = c.cut.ensures.padded }
 
 pub turn_spec : {M : Type 1} → statement M
 turn_spec =

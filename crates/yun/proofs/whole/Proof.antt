@@ -8,34 +8,34 @@ use Rattle.yun.proofs.whole.Statement.{statement}
 use Rattle.yun.proofs.whole.Tie as tie
 
 -- nothing is found yet
-none : (c : tie.After-nothing) → c.nothing.result.len ≡ 0
-none c = ap (λ (d : Decomposition). d.len) c.nothing.ensures
+none : (c : tie.After-nothing-out) → c.nothing-out.result.len ≡ 0
+none c = ap (λ (d : Decomposition). d.len) c.nothing-out.ensures
 
-nothing-requires : tie.Need-nothing-requires
+nothing-requires : tie.Need-nothing-out-requires
 nothing-requires c κs = tt
 
-piece-of-requires : tie.Need-piece-of-requires
-piece-of-requires c κs = c.before.requires
+piece-of-requires : tie.Need-piece_of-requires
+piece-of-requires c κs = c.requires
 
-mul-t6 : tie.Need-overflow-mul-t6
+mul-t6 : tie.Need-offset_bounds-out-n
 mul-t6 c = omega (arith, none c.before)
 
-element-set-from-out : tie.Need-element-set-from-out
+element-set-from-out : tie.Need-bounds-out-n
 element-set-from-out c = omega (arith, none c.before)
 
 room-requires : tie.Need-room-requires
 room-requires c κs = tt
 
-add-out : tie.Need-overflow-add-out
-add-out c = omega (arith, none c.before.before, c.room.ensures, room-few (terms_of c.before.before.before.args.f))
+add-out : tie.Need-overflow_add-out
+add-out c = omega (arith, none c.before.before, c.room.ensures, room-few (terms_of c.args.f))
 
 returns : tie.Need-returns
 returns c =
-    let n = c.before.before in
-    stored-first n.nothing.result (terms_of n.before.args.f) c.before.piece_of.result c.room.result n.nothing.ensures c.before.piece_of.ensures c.room.ensures
+    let n = c in
+    stored-first n.nothing-out.result (terms_of n.args.f) c.piece_of.result c.room.result n.nothing-out.ensures c.piece_of.ensures c.room.ensures
 
-pub whole-spec : {M : Type 1} → statement M
-whole-spec =
+pub whole_spec : {M : Type 1} → statement M
+whole_spec =
     tie.close
     (tie.spec
     nothing-requires
