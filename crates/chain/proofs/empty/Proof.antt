@@ -13,5 +13,5 @@ zero-requires c κs = tt
 returns : tie.Need-returns
 returns c = ap {B = Chain} (λ (p : Poly). record { outcome = O.Done; polys = replicate 32 p; len = 0 }) c.zero.ensures
 
-pub empty-spec : {M : Type 1} → statement M
-empty-spec = tie.close (tie.spec zero-requires returns)
+pub empty_spec : {M : Type 1} → statement M
+empty_spec = tie.close (tie.spec zero-requires returns)

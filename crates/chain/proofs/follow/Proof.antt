@@ -9,80 +9,80 @@ use Rattle.chain.proofs.CodeFollow.{Going, going-none, going_end, going-room, go
 use Rattle.chain.proofs.follow.Statement.{statement}
 use Rattle.chain.proofs.follow.Tie as tie
 
-abbrev invariant-loop : tie.invariant-loop
+abbrev invariant-loop : tie.invariant-loop-a
 invariant-loop out₀ a₀ b₀ out a b = Going (terms_of a₀) (terms_of b₀) out (terms_of a) b
 
-abbrev decreases-loop : tie.decreases-loop
+abbrev decreases-loop : tie.decreases-loop-a
 decreases-loop out₀ a₀ b₀ out a b = length (terms_of b)
 
-empty-requires : tie.Need-empty-requires invariant-loop decreases-loop
+empty-requires : tie.Need-empty-out-requires invariant-loop decreases-loop
 empty-requires c κs = tt
 
-element-set-from-p : tie.Need-element-set-from-p invariant-loop decreases-loop
+element-set-from-p : tie.Need-bounds-out-0 invariant-loop decreases-loop
 element-set-from-p c = omega arith
 
-loop-holds : tie.Need-loop-init invariant-loop decreases-loop
+loop-holds : tie.Need-loop-a-init invariant-loop decreases-loop
 loop-holds c =
-    let s = c.before.args in
-    let r = c.before.requires in
-    going-none s.p s.d c.empty.result _ r.0 r.1 r.2 c.empty.ensures refl
+    let s = c.args in
+    let r = c.requires in
+    going-none s.p s.d c.empty-out.result _ r.0 r.1 r.2 c.empty-out.ensures refl
 
 length-requires : tie.Need-length-requires invariant-loop decreases-loop
 length-requires c κs = tt
 
-room : (c : tie.Then1 invariant-loop decreases-loop) → c.before.before.loop.out.len < 32
+room : (c : tie.In-loop-a invariant-loop decreases-loop) → c.loop-a.out.len < 32
 room c =
-    let l = c.before.before in
-    let s = l.before.before.args in
-    going-room (terms_of s.p) (terms_of s.d) l.loop.out (terms_of l.loop.a) l.loop.b l.loop.invariant (omega (arith, c.before.length.ensures))
+    let l = c in
+    let s = l.args in
+    going-room (terms_of s.p) (terms_of s.d) l.loop-a.out (terms_of l.loop-a.a) l.loop-a.b l.loop-a.invariant (omega (arith, c.length.ensures))
 
-mul-b : tie.Need-overflow-mul-b invariant-loop decreases-loop
+mul-b : tie.Need-offset_bounds-out-n invariant-loop decreases-loop
 mul-b c = omega (arith, room c)
 
-element-set-from-b : tie.Need-element-set-from-b invariant-loop decreases-loop
+element-set-from-b : tie.Need-bounds-out-n invariant-loop decreases-loop
 element-set-from-b c = omega (arith, room c)
 
-add-out : tie.Need-overflow-add-out invariant-loop decreases-loop
+add-out : tie.Need-overflow_add-out invariant-loop decreases-loop
 add-out c = omega (arith, room c)
 
-next-requires : tie.Need-next-requires invariant-loop decreases-loop
+next-requires : tie.Need-next-r-requires invariant-loop decreases-loop
 next-requires c κs = tt
 
-enum-known-o : tie.Need-enum-known-o invariant-loop decreases-loop
-enum-known-o c = c.match.keys1
+enum-known-o : tie.Need-enum_known-o invariant-loop decreases-loop
+enum-known-o c = c.in-Refused-1.keys1
 
 refused-requires : tie.Need-refused-requires invariant-loop decreases-loop
 refused-requires c κs = tt
 
-returns : tie.Need-returns invariant-loop decreases-loop
+returns : tie.Need-returns-in-Refused invariant-loop decreases-loop
 returns c =
-    let l = c.before.before.before.before.before.before.before in
-    let s = l.before.before.args in
-    c.refused.ensures ∙ going-refused (terms_of s.p) (terms_of s.d) l.loop.out (terms_of l.loop.a) l.loop.b l.loop.invariant (omega (arith, c.before.before.before.before.before.before.length.ensures)) c.before.before.before.before.next.result c.before.before.before.before.next.ensures _ c.before.before.o.given.1
+    let l = c in
+    let s = l.args in
+    c.refused.ensures ∙ going-refused (terms_of s.p) (terms_of s.d) l.loop-a.out (terms_of l.loop-a.a) l.loop-a.b l.loop-a.invariant (omega (arith, c.length.ensures)) c.next-r.result c.next-r.ensures _ c.in-Refused.is
 
-enum_told : tie.Need-enum-told invariant-loop decreases-loop
-enum_told c = c.match.keys2
+enum_told : tie.Need-enum_told-1 invariant-loop decreases-loop
+enum_told c = c.in_default-1.keys2
 
-loop-less : tie.Need-loop-smaller invariant-loop decreases-loop
+loop-less : tie.Need-loop-a-smaller invariant-loop decreases-loop
 loop-less c =
-    let l = c.before.before.before.before.before.before in
-    let s = l.before.before.args in
-    going-short (terms_of s.p) (terms_of s.d) l.loop.out (terms_of l.loop.a) l.loop.b l.loop.invariant (omega (arith, c.before.before.before.before.before.length.ensures)) c.before.before.before.next.result c.before.before.before.next.ensures c.before.enum_told.given.1
+    let l = c in
+    let s = l.args in
+    going-short (terms_of s.p) (terms_of s.d) l.loop-a.out (terms_of l.loop-a.a) l.loop-a.b l.loop-a.invariant (omega (arith, c.length.ensures)) c.next-r.result c.next-r.ensures c.in_default.is
 
-loop-again : tie.Need-loop-preserved invariant-loop decreases-loop
+loop-again : tie.Need-loop-a-preserved invariant-loop decreases-loop
 loop-again c =
-    let l = c.before.before.before.before.before.before in
-    let s = l.before.before.args in
-    going_more (terms_of s.p) (terms_of s.d) l.loop.out (terms_of l.loop.a) l.loop.b l.loop.invariant (omega (arith, c.before.before.before.before.before.length.ensures)) c.before.before.before.next.result c.before.before.before.next.ensures _ refl c.before.enum_told.given.1
+    let l = c in
+    let s = l.args in
+    going_more (terms_of s.p) (terms_of s.d) l.loop-a.out (terms_of l.loop-a.a) l.loop-a.b l.loop-a.invariant (omega (arith, c.length.ensures)) c.next-r.result c.next-r.ensures _ refl c.in_default.is
 
-returns-2 : tie.Need-returns-2 invariant-loop decreases-loop
+returns-2 : tie.Need-returns invariant-loop decreases-loop
 returns-2 c =
-    let l = c.before.before in
-    let s = l.before.before.args in
-    going_end (terms_of s.p) (terms_of s.d) l.loop.out (terms_of l.loop.a) l.loop.b l.loop.invariant (omega (arith, c.before.length.ensures))
+    let l = c in
+    let s = l.args in
+    going_end (terms_of s.p) (terms_of s.d) l.loop-a.out (terms_of l.loop-a.a) l.loop-a.b l.loop-a.invariant (omega (arith, c.length.ensures))
 
-pub follow-spec : {M : Type 1} → statement M
-follow-spec =
+pub follow_spec : {M : Type 1} → statement M
+follow_spec =
     tie.close
     (tie.spec
     invariant-loop

@@ -11,7 +11,7 @@ zero-requires : tie.Need-zero-requires
 zero-requires c κs = tt
 
 returns : tie.Need-returns
-returns c = ap {B = Chain} (λ (p : Poly). record { outcome = O.Refused c.before.args.why; polys = replicate 32 p; len = 0 }) c.zero.ensures
+returns c = ap {B = Chain} (λ (p : Poly). record { outcome = O.Refused c.args.why; polys = replicate 32 p; len = 0 }) c.zero.ensures
 
-pub refused-spec : {M : Type 1} → statement M
-refused-spec = tie.close (tie.spec zero-requires returns)
+pub refused_spec : {M : Type 1} → statement M
+refused_spec = tie.close (tie.spec zero-requires returns)

@@ -13,62 +13,62 @@ use Rattle.kronecker.proofs.Points.{whole-more, whole-fails, whole-end}
 use Rattle.kronecker.proofs.all_whole.Statement.{statement}
 use Rattle.kronecker.proofs.all_whole.Tie as tie
 
-abbrev invariant-loop : tie.invariant-loop
+abbrev invariant-loop : tie.invariant-loop-i
 invariant-loop p n i₀ i = (n ≡ length (terms_of p)) × (n ≤ 32) × (i ≤ n) × (all_whole (drop i (terms_of p)) ≡ all_whole (terms_of p))
 
-abbrev decreases-loop : tie.decreases-loop
+abbrev decreases-loop : tie.decreases-loop-i
 decreases-loop p n i₀ i = n - i
 
-length-requires : tie.Need-length-requires invariant-loop decreases-loop
+length-requires : tie.Need-length-n-requires invariant-loop decreases-loop
 length-requires c κs = tt
 
-loop-holds : tie.Need-loop-init invariant-loop decreases-loop
+loop-holds : tie.Need-loop-i-init invariant-loop decreases-loop
 loop-holds c =
-    let s = c.before.args.t1 in
+    let s = c.args.p in
     let e : length s.coeffs ≡ 32 = search (rules, long) in
-    (c.length.ensures, omega (arith, c.length.ensures, within-32 s.len s.coeffs e), omega arith, refl)
+    (c.length-n.ensures, omega (arith, c.length-n.ensures, within-32 s.len s.coeffs e), omega arith, refl)
 
-mul-c : tie.Need-overflow-mul-c invariant-loop decreases-loop
+mul-c : tie.Need-offset_bounds-p-i invariant-loop decreases-loop
 mul-c c = omega arith
 
-element-copy-out-c : tie.Need-element-copy-out-c invariant-loop decreases-loop
+element-copy-out-c : tie.Need-bounds-p-i invariant-loop decreases-loop
 element-copy-out-c c = omega arith
 
-is-whole-requires : tie.Need-is-whole-requires invariant-loop decreases-loop
+is-whole-requires : tie.Need-is_whole-requires invariant-loop decreases-loop
 is-whole-requires c κs = tt
 
 -- the test of turn i
-test : (c : tie.After-is-whole invariant-loop decreases-loop) → is_whole (get_or (terms_of c.before.before.before.before.before.args.t1) c.before.before.before.loop.i zero_r) ≡ c.is_whole.result
+test : (c : tie.After-is_whole invariant-loop decreases-loop) → is_whole (get_or (terms_of c.args.p) c.loop-i.i zero_r) ≡ c.is_whole.result
 test c =
-    let l = c.before.before.before in
-    let s = l.before.before.args.t1 in
-    ap is_whole (sym (read-terms s.len s.coeffs l.loop.i past zero_r (omega arith))) ∙ sym c.is_whole.ensures
+    let l = c in
+    let s = l.args.p in
+    ap is_whole (sym (read-terms s.len s.coeffs l.loop-i.i past zero_r (omega arith))) ∙ sym c.is_whole.ensures
 
-returns : tie.Need-returns invariant-loop decreases-loop
+returns : tie.Need-returns-then-not-is_whole invariant-loop decreases-loop
 returns c =
-    let l = c.before.before.before.before in
-    let s = l.before.before.args.t1 in
-    whole-fails (terms_of s) l.loop.i zero_r (omega arith) (test c.before ∙ not-true _ c.if1.true) ∙ l.loop.invariant.3
+    let l = c in
+    let s = l.args.p in
+    whole-fails (terms_of s) l.loop-i.i zero_r (omega arith) (test c.before ∙ not-true _ c.if-not-is_whole.true-raw) ∙ l.loop-i.invariant.3
 
-add-i : tie.Need-overflow-add-i invariant-loop decreases-loop
+add-i : tie.Need-overflow_add-i invariant-loop decreases-loop
 add-i c = omega arith
 
-loop-less : tie.Need-loop-smaller invariant-loop decreases-loop
+loop-less : tie.Need-loop-i-smaller invariant-loop decreases-loop
 loop-less c = omega arith
 
-loop-again : tie.Need-loop-preserved invariant-loop decreases-loop
+loop-again : tie.Need-loop-i-preserved invariant-loop decreases-loop
 loop-again c =
-    let l = c.before.before.before.before in
-    let s = l.before.before.args.t1 in
-    (l.loop.invariant.0, l.loop.invariant.1, omega arith, whole-more (terms_of s) l.loop.i zero_r (omega arith) (test c.before ∙ not-false _ c.if1.false) ∙ l.loop.invariant.3)
+    let l = c in
+    let s = l.args.p in
+    (l.loop-i.invariant.0, l.loop-i.invariant.1, omega arith, whole-more (terms_of s) l.loop-i.i zero_r (omega arith) (test c.before ∙ not-false _ c.if-not-is_whole.false-raw) ∙ l.loop-i.invariant.3)
 
-returns-2 : tie.Need-returns-2 invariant-loop decreases-loop
+returns-2 : tie.Need-returns invariant-loop decreases-loop
 returns-2 c =
-    let l = c.before in
-    whole-end (terms_of l.before.before.args.t1) l.loop.i (omega arith) ∙ l.loop.invariant.3
+    let l = c in
+    whole-end (terms_of l.args.p) l.loop-i.i (omega arith) ∙ l.loop-i.invariant.3
 
-pub all-whole-spec : {M : Type 1} → statement M
-all-whole-spec =
+pub all_whole_spec : {M : Type 1} → statement M
+all_whole_spec =
     tie.close
     (tie.spec
     invariant-loop

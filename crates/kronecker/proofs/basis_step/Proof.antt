@@ -19,19 +19,19 @@ away-requires c κs = tt
 times-requires : tie.Need-times-requires
 times-requires c κs = tt
 
-returns : tie.Need-returns
+returns : tie.Need-returns-then-i-j
 returns c =
-    let s = c.before.before.before.args in
-    let e = eq-eqb s.i s.j c.before.before.if1.true in
-    rw e (c.done.ensures ∙ ap (λ (p : Poly). done_with p 0) c.before.normalise.ensures)
+    let s = c.args in
+    let e = eq-eqb s.i s.j c.if-i-j.true in
+    rw e (c.done.ensures ∙ ap (λ (p : Poly). done_with p 0) c.normalise.ensures)
 
-returns-2 : tie.Need-returns-2
+returns-2 : tie.Need-returns-else-i-j
 returns-2 c =
-    let s = c.before.before.before.args in
-    let e = ne_eqb s.i s.j c.before.before.if1.false in
-    rw e (c.times.ensures ∙ ap (λ (p : Poly). product_of (terms_of s.acc) (terms_of p)) c.before.away.ensures)
+    let s = c.args in
+    let e = ne_eqb s.i s.j c.if-i-j.false in
+    rw e (c.times.ensures ∙ ap (λ (p : Poly). product_of (terms_of s.acc) (terms_of p)) c.away.ensures)
 
-pub basis-step-spec : {M : Type 1} → statement M
-basis-step-spec =
+pub basis_step_spec : {M : Type 1} → statement M
+basis_step_spec =
     tie.close
     (tie.spec normalise-requires done-requires away-requires times-requires returns returns-2)

@@ -16,11 +16,11 @@ whole-requires : tie.Need-whole-requires
 whole-requires c κs = tt
 
 push-requires : tie.Need-push-requires
-push-requires c κs = omega (arith, c.before.nothing.ensures.1)
+push-requires c κs = omega (arith, c.nothing.ensures.1)
 
 returns : tie.Need-returns
 returns c =
-    let z = c.before.before.nothing in
+    let z = c.nothing in
     (c.push.ensures.0, rows_more 0 z.result c.push.result _ c.push.ensures.2 ∙ ap (λ (n : ℕ). map (row_of 0) (take n z.result.rows) ++ ([] ∷ [])) z.ensures.1)
 
 pub first_spec : {M : Type 1} → statement M

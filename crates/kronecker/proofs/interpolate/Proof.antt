@@ -22,74 +22,74 @@ use Rattle.kronecker.proofs.interpolate.Tie as tie
 abbrev turn : List Ratio → ℕ → ℕ → List Ratio → Answer
 turn ys n i acc = added_part acc i n (get_or ys i zero_r)
 
-abbrev invariant-loop : tie.invariant-loop
+abbrev invariant-loop : tie.invariant-loop-i
 invariant-loop n c all acc₀ i₀ acc i = (n ≤ 7) × (length c.values ≡ 7) × (i ≤ n) × Repeating (turn (take n c.values) n) n [] i (terms_of acc) × (length all.rows ≡ 7)
 
-abbrev decreases-loop : tie.decreases-loop
+abbrev decreases-loop : tie.decreases-loop-i
 decreases-loop n c all acc₀ i₀ acc i = n - i
 
-zero-requires : tie.Need-zero-requires invariant-loop decreases-loop
+zero-requires : tie.Need-zero-acc-requires invariant-loop decreases-loop
 zero-requires c κs = tt
 
-loop-holds : tie.Need-loop-init invariant-loop decreases-loop
+loop-holds : tie.Need-loop-i-init invariant-loop decreases-loop
 loop-holds c =
-    let s = c.before.args in
-    (c.before.requires.0, search (rules, long), omega arith, repeating-none (turn (take s.n s.t1.values) s.n) s.n [] _ (ap terms_of c.zero.ensures), search (rules, long))
+    let s = c.args in
+    (c.requires.0, search (rules, long), omega arith, repeating-none (turn (take s.n s.c.values) s.n) s.n [] _ (ap terms_of c.zero-acc.ensures), search (rules, long))
 
-mul-y : tie.Need-overflow-mul-y invariant-loop decreases-loop
+mul-y : tie.Need-offset_bounds-c-i invariant-loop decreases-loop
 mul-y c = omega arith
 
-element-copy-out-y : tie.Need-element-copy-out-y invariant-loop decreases-loop
+element-copy-out-y : tie.Need-bounds-c-i invariant-loop decreases-loop
 element-copy-out-y c = omega arith
 
-mul-b : tie.Need-overflow-mul-b invariant-loop decreases-loop
+mul-b : tie.Need-offset_bounds-all-i invariant-loop decreases-loop
 mul-b c = omega arith
 
-element-copy-out-b : tie.Need-element-copy-out-b invariant-loop decreases-loop
+element-copy-out-b : tie.Need-bounds-all-i invariant-loop decreases-loop
 element-copy-out-b c = omega arith
 
-add-part-requires : tie.Need-add-part-requires invariant-loop decreases-loop
+add-part-requires : tie.Need-add_part-a-requires invariant-loop decreases-loop
 add-part-requires c κs = tt
 
 -- what turn i makes
-told : (c : tie.After-add-part invariant-loop decreases-loop) → c.add-part.result ≡ turn (take c.before.before.before.before.before.before.args.n c.before.before.before.before.before.before.args.t1.values) c.before.before.before.before.before.before.args.n c.before.before.before.before.loop.i (terms_of c.before.before.before.before.loop.acc)
+told : (c : tie.After-add_part-a invariant-loop decreases-loop) → c.add_part-a.result ≡ turn (take c.args.n c.args.c.values) c.args.n c.loop-i.i (terms_of c.loop-i.acc)
 told c =
-    let l = c.before.before.before.before in
-    let z = l.before.before in
+    let l = c in
+    let z = l in
     let s = z.args in
-    c.add-part.ensures
-    ∙ added-serves (terms_of l.loop.acc) _ _ l.loop.i s.n (z.requires.1.each l.loop.i (omega arith) _)
-    ∙ ap (λ (y : Ratio). added_part (terms_of l.loop.acc) l.loop.i s.n y) (read-terms s.n s.t1.values l.loop.i past zero_r (omega (arith, length-take s.n s.t1.values, l.loop.invariant.0, l.loop.invariant.1)))
+    c.add_part-a.ensures
+    ∙ added-serves (terms_of l.loop-i.acc) _ _ l.loop-i.i s.n (z.requires.1.each l.loop-i.i (omega arith) _)
+    ∙ ap (λ (y : Ratio). added_part (terms_of l.loop-i.acc) l.loop-i.i s.n y) (read-terms s.n s.c.values l.loop-i.i past zero_r (omega (arith, length-take s.n s.c.values, l.loop-i.invariant.0, l.loop-i.invariant.1)))
 
-enum_told : tie.Need-enum-told invariant-loop decreases-loop
+enum_told : tie.Need-enum_told-1 invariant-loop decreases-loop
 enum_told c = search rules
 
 skipped-requires : tie.Need-skipped-requires invariant-loop decreases-loop
 skipped-requires c κs = tt
 
-returns : tie.Need-returns invariant-loop decreases-loop
+returns : tie.Need-returns-in-Refused invariant-loop decreases-loop
 unfolding interpolated_of
 returns c =
-    let m = c.before.before.before in
-    let l = m.before.before.before.before in
-    let s = l.before.before.args in
-    c.skipped.ensures ∙ repeating-over (turn (take s.n s.t1.values) s.n) s.n [] l.loop.i (terms_of l.loop.acc) (omega arith) l.loop.invariant.3 m.add-part.result (told m) _ c.before.enum_told.given.1
+    let m = c in
+    let l = m in
+    let s = l.args in
+    c.skipped.ensures ∙ repeating-over (turn (take s.n s.c.values) s.n) s.n [] l.loop-i.i (terms_of l.loop-i.acc) (omega arith) l.loop-i.invariant.3 m.add_part-a.result (told m.before.before) _ c.in-Refused.is
 
-enum-told-2 : tie.Need-enum-told-2 invariant-loop decreases-loop
+enum-told-2 : tie.Need-enum_told-in_default invariant-loop decreases-loop
 enum-told-2 c = search rules
 
-add-i : tie.Need-overflow-add-i invariant-loop decreases-loop
+add-i : tie.Need-overflow_add-i invariant-loop decreases-loop
 add-i c = omega arith
 
-loop-less : tie.Need-loop-smaller invariant-loop decreases-loop
+loop-less : tie.Need-loop-i-smaller invariant-loop decreases-loop
 loop-less c = omega arith
 
-loop-again : tie.Need-loop-preserved invariant-loop decreases-loop
+loop-again : tie.Need-loop-i-preserved invariant-loop decreases-loop
 loop-again c =
-    let m = c.before.before.before in
-    let l = m.before.before.before.before in
-    let s = l.before.before.args in
-    (l.loop.invariant.0, l.loop.invariant.1, omega arith, repeating-more (turn (take s.n s.t1.values) s.n) s.n [] l.loop.i (terms_of l.loop.acc) (omega arith) l.loop.invariant.3 m.add-part.result (told m) c.before.enum-told2.given.1, l.loop.invariant.4)
+    let m = c in
+    let l = m in
+    let s = l.args in
+    (l.loop-i.invariant.0, l.loop-i.invariant.1, omega arith, repeating-more (turn (take s.n s.c.values) s.n) s.n [] l.loop-i.i (terms_of l.loop-i.acc) (omega arith) l.loop-i.invariant.3 m.add_part-a.result (told m.before.before) c.in_default.is, l.loop-i.invariant.4)
 
 normalise-requires : tie.Need-normalise-requires invariant-loop decreases-loop
 normalise-requires c κs = tt
@@ -97,15 +97,15 @@ normalise-requires c κs = tt
 done-requires : tie.Need-done-requires invariant-loop decreases-loop
 done-requires c κs = tt
 
-returns-2 : tie.Need-returns-2 invariant-loop decreases-loop
+returns-2 : tie.Need-returns invariant-loop decreases-loop
 unfolding interpolated_of
 returns-2 c =
-    let l = c.before.before.before in
-    let s = l.before.before.args in
-    c.done.ensures ∙ ap (λ (p : Poly). done_with p 0) c.before.normalise.ensures ∙ repeating-all (turn (take s.n s.t1.values) s.n) s.n [] l.loop.i (terms_of l.loop.acc) (omega arith) l.loop.invariant.3
+    let l = c in
+    let s = l.args in
+    c.done.ensures ∙ ap (λ (p : Poly). done_with p 0) c.normalise.ensures ∙ repeating-all (turn (take s.n s.c.values) s.n) s.n [] l.loop-i.i (terms_of l.loop-i.acc) (omega arith) l.loop-i.invariant.3
 
-pub interpolate-spec : {M : Type 1} → statement M
-interpolate-spec =
+pub interpolate_spec : {M : Type 1} → statement M
+interpolate_spec =
     tie.close
     (tie.spec
     invariant-loop

@@ -11,7 +11,7 @@ magnitude-requires : tie.Need-magnitude-requires
 magnitude-requires c κs = tt
 
 returns : tie.Need-returns
-returns c = ap (λ (n : ℕ). eqb n 1) (c.magnitude.ensures ∙ ap nat_abs (to_z-of_z {z = c.before.before.args.r.den} (record { sfits = c.before.struct_told.given.1.0.1 })))
+returns c = ap (λ (n : ℕ). eqb n 1) (c.magnitude.ensures ∙ ap nat_abs (to_z-of_z {w = Rattle.std.proofs.Common.w64} {z = c.args.r.den} (record { sfits = c.struct_told-1.given.1.0.1 })))
 
-pub is-whole-spec : {M : Type 1} → statement M
-is-whole-spec = tie.close (tie.spec magnitude-requires returns)
+pub is_whole_spec : {M : Type 1} → statement M
+is_whole_spec = tie.close (tie.spec magnitude-requires returns)

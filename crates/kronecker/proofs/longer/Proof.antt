@@ -9,17 +9,17 @@ use borrow.Author.Rules.{rules}
 use Rattle.kronecker.proofs.longer.Statement.{statement}
 use Rattle.kronecker.proofs.longer.Tie as tie
 
-mul-values : tie.Need-overflow-mul-values
+mul-values : tie.Need-offset_bounds-values-j
 mul-values c = search rules
 
-array-set-from-values : tie.Need-array-set-from-values
+array-set-from-values : tie.Need-bounds-values-j
 array-set-from-values c = search rules
 
 returns : tie.Need-returns
 returns c =
-    let s = c.before.args in
+    let s = c.args in
     let e : length s.c.values ≡ 7 = search (rules, long) in
-    rw (add-one s.j) (take-suc-set s.c.values s.j s.y (omega (arith, c.before.requires)))
+    rw (add-one s.j) (take-suc-set s.c.values s.j s.y (omega (arith, c.requires)))
 
-pub longer-spec : {M : Type 1} → statement M
-longer-spec = tie.close (tie.spec mul-values array-set-from-values returns)
+pub longer_spec : {M : Type 1} → statement M
+longer_spec = tie.close (tie.spec mul-values array-set-from-values returns)

@@ -14,50 +14,50 @@ use Rattle.kronecker.proofs.Repeats.{Repeating, repeating-none, repeating-more, 
 use Rattle.kronecker.proofs.product.Statement.{statement}
 use Rattle.kronecker.proofs.product.Tie as tie
 
-abbrev invariant-loop : tie.invariant-loop
+abbrev invariant-loop : tie.invariant-loop-j
 invariant-loop i n acc₀ j₀ acc j = (j ≤ n) × Repeating (basis_step i) n (whole_r (pos 1) ∷ []) j (terms_of acc)
 
-abbrev decreases-loop : tie.decreases-loop
+abbrev decreases-loop : tie.decreases-loop-j
 decreases-loop i n acc₀ j₀ acc j = n - j
 
-one-requires : tie.Need-one-requires invariant-loop decreases-loop
+one-requires : tie.Need-one-acc-requires invariant-loop decreases-loop
 one-requires c κs = tt
 
-loop-holds : tie.Need-loop-init invariant-loop decreases-loop
-loop-holds c = (omega arith, repeating-none (basis_step c.before.args.i) c.before.args.n (whole_r (pos 1) ∷ []) _ (ap terms_of c.one.ensures))
+loop-holds : tie.Need-loop-j-init invariant-loop decreases-loop
+loop-holds c = (omega arith, repeating-none (basis_step c.args.i) c.args.n (whole_r (pos 1) ∷ []) _ (ap terms_of c.one-acc.ensures))
 
-basis-step-requires : tie.Need-basis-step-requires invariant-loop decreases-loop
+basis-step-requires : tie.Need-basis_step-a-requires invariant-loop decreases-loop
 basis-step-requires c κs = tt
 
-enum_told : tie.Need-enum-told invariant-loop decreases-loop
+enum_told : tie.Need-enum_told-1 invariant-loop decreases-loop
 enum_told c = search rules
 
 skipped-requires : tie.Need-skipped-requires invariant-loop decreases-loop
 skipped-requires c κs = tt
 
-returns : tie.Need-returns invariant-loop decreases-loop
+returns : tie.Need-returns-in-Refused invariant-loop decreases-loop
 unfolding basis_of
 returns c =
-    let m = c.before.before.before in
-    let l = m.before.before in
-    let s = l.before.before.args in
-    c.skipped.ensures ∙ repeating-over (basis_step s.i) s.n (whole_r (pos 1) ∷ []) l.loop.j (terms_of l.loop.acc) (omega arith) l.loop.invariant.1 m.basis-step.result m.basis-step.ensures _ c.before.enum_told.given.1
+    let m = c in
+    let l = m in
+    let s = l.args in
+    c.skipped.ensures ∙ repeating-over (basis_step s.i) s.n (whole_r (pos 1) ∷ []) l.loop-j.j (terms_of l.loop-j.acc) (omega arith) l.loop-j.invariant.1 m.basis_step-a.result m.basis_step-a.ensures _ c.in-Refused.is
 
-enum-told-2 : tie.Need-enum-told-2 invariant-loop decreases-loop
+enum-told-2 : tie.Need-enum_told-in_default invariant-loop decreases-loop
 enum-told-2 c = search rules
 
-add-j : tie.Need-overflow-add-j invariant-loop decreases-loop
+add-j : tie.Need-overflow_add-j invariant-loop decreases-loop
 add-j c = omega arith
 
-loop-less : tie.Need-loop-smaller invariant-loop decreases-loop
+loop-less : tie.Need-loop-j-smaller invariant-loop decreases-loop
 loop-less c = omega arith
 
-loop-again : tie.Need-loop-preserved invariant-loop decreases-loop
+loop-again : tie.Need-loop-j-preserved invariant-loop decreases-loop
 loop-again c =
-    let m = c.before.before.before in
-    let l = m.before.before in
-    let s = l.before.before.args in
-    (omega arith, repeating-more (basis_step s.i) s.n (whole_r (pos 1) ∷ []) l.loop.j (terms_of l.loop.acc) (omega arith) l.loop.invariant.1 m.basis-step.result m.basis-step.ensures c.before.enum-told2.given.1)
+    let m = c in
+    let l = m in
+    let s = l.args in
+    (omega arith, repeating-more (basis_step s.i) s.n (whole_r (pos 1) ∷ []) l.loop-j.j (terms_of l.loop-j.acc) (omega arith) l.loop-j.invariant.1 m.basis_step-a.result m.basis_step-a.ensures c.in_default.is)
 
 normalise-requires : tie.Need-normalise-requires invariant-loop decreases-loop
 normalise-requires c κs = tt
@@ -65,15 +65,15 @@ normalise-requires c κs = tt
 done-requires : tie.Need-done-requires invariant-loop decreases-loop
 done-requires c κs = tt
 
-returns-2 : tie.Need-returns-2 invariant-loop decreases-loop
+returns-2 : tie.Need-returns invariant-loop decreases-loop
 unfolding basis_of
 returns-2 c =
-    let l = c.before.before.before in
-    let s = l.before.before.args in
-    c.done.ensures ∙ ap (λ (p : Poly). done_with p 0) c.before.normalise.ensures ∙ repeating-all (basis_step s.i) s.n (whole_r (pos 1) ∷ []) l.loop.j (terms_of l.loop.acc) (omega arith) l.loop.invariant.1
+    let l = c in
+    let s = l.args in
+    c.done.ensures ∙ ap (λ (p : Poly). done_with p 0) c.normalise.ensures ∙ repeating-all (basis_step s.i) s.n (whole_r (pos 1) ∷ []) l.loop-j.j (terms_of l.loop-j.acc) (omega arith) l.loop-j.invariant.1
 
-pub product-spec : {M : Type 1} → statement M
-product-spec =
+pub product_spec : {M : Type 1} → statement M
+product_spec =
     tie.close
     (tie.spec
     invariant-loop

@@ -9,20 +9,20 @@ use borrow.Author.Rules.{rules}
 use Rattle.kronecker.proofs.push.Statement.{statement}
 use Rattle.kronecker.proofs.push.Tie as tie
 
-mul-rows : tie.Need-overflow-mul-rows
+mul-rows : tie.Need-offset_bounds-rows-n
 mul-rows c = search rules
 
-array-set-from-rows : tie.Need-array-set-from-rows
+array-set-from-rows : tie.Need-bounds-rows-n
 array-set-from-rows c = search rules
 
-add-t5 : tie.Need-overflow-add-t5
+add-t5 : tie.Need-overflow_add-result
 add-t5 c = search rules
 
 returns : tie.Need-returns
 returns c =
-    let s = c.before.args in
+    let s = c.args in
     let e : length s.out.rows ≡ 100 = search (rules, long) in
-    (record { few = omega (arith, c.before.requires); places = length-set s.out.rows s.out.len s.c ∙ e }, refl, rw (add-one s.out.len) (take-suc-set s.out.rows s.out.len s.c (omega (arith, c.before.requires))))
+    (record { few = omega (arith, c.requires); places = length-set s.out.rows s.out.len s.c ∙ e }, refl, rw (add-one s.out.len) (take-suc-set s.out.rows s.out.len s.c (omega (arith, c.requires))))
 
 pub push_spec : {M : Type 1} → statement M
 push_spec = tie.close (tie.spec mul-rows array-set-from-rows add-t5 returns)

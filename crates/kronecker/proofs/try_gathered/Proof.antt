@@ -6,35 +6,35 @@ use borrow.Author.Rules.{rules}
 use Rattle.kronecker.proofs.try_gathered.Statement.{statement}
 use Rattle.kronecker.proofs.try_gathered.Tie as tie
 
-gather-requires : tie.Need-gather-requires
+gather-requires : tie.Need-gather-g-requires
 gather-requires c κs = c.requires
 
-enum-known-o : tie.Need-enum-known-o
+enum-known-o : tie.Need-enum_known-o
 enum-known-o c = search rules
 
 without-requires : tie.Need-without-requires
 without-requires c κs = tt
 
-enum_told : tie.Need-enum-told
+enum_told : tie.Need-enum_told-1
 enum_told c = search rules
 
-try-all-requires : tie.Need-try-all-requires
-try-all-requires c κs = (c.before.before.before.before.requires, c.before.before.before.gather.ensures.0)
+try-all-requires : tie.Need-try_all-requires
+try-all-requires c κs = (c.requires, c.gather-g.ensures.0)
 
-returns : tie.Need-returns
+returns : tie.Need-returns-in-Refused
 returns c =
-    let g = c.before.before.before.before in
-    let s = g.before.args in
-    c.without.ensures ∙ gathered-refused (terms_of s.f) s.n _ g.gather.result g.gather.ensures.1 _ c.before.before.o.given.1
+    let g = c in
+    let s = g.args in
+    c.without.ensures ∙ gathered-refused (terms_of s.f) s.n _ g.gather-g.result g.gather-g.ensures.1 _ c.in-Refused.is
 
-returns-2 : tie.Need-returns-2
+returns-2 : tie.Need-returns-in-Done
 returns-2 c =
-    let g = c.before.before.before.before in
-    let s = g.before.args in
-    c.try-all.ensures ∙ gathered-tried (terms_of s.f) s.n _ g.gather.result g.gather.ensures.1 c.before.before.enum_told.given.1
+    let g = c in
+    let s = g.args in
+    c.try_all.ensures ∙ gathered-tried (terms_of s.f) s.n _ g.gather-g.result g.gather-g.ensures.1 c.in-Done.is
 
-pub try-gathered-spec : {M : Type 1} → statement M
-try-gathered-spec =
+pub try_gathered_spec : {M : Type 1} → statement M
+try_gathered_spec =
     tie.close
     (tie.spec
     gather-requires

@@ -7,35 +7,35 @@ use borrow.Author.Rules.{rules}
 use Rattle.kronecker.proofs.try_one.Statement.{statement}
 use Rattle.kronecker.proofs.try_one.Tie as tie
 
-interpolate-requires : tie.Need-interpolate-requires
+interpolate-requires : tie.Need-interpolate-a-requires
 interpolate-requires c κs = c.requires
 
-enum_told : tie.Need-enum-told
+enum_told : tie.Need-enum_told-1
 enum_told c = search rules
 
 without-requires : tie.Need-without-requires
 without-requires c κs = tt
 
-returns : tie.Need-returns
+returns : tie.Need-returns-in-Refused
 returns c =
-    let i = c.before.before.before in
-    let s = i.before.args in
-    c.without.ensures ∙ tried-skipped (terms_of s.f) s.n (take s.n s.c.values) i.interpolate.result i.interpolate.ensures _ c.before.enum_told.given.1
+    let i = c in
+    let s = i.args in
+    c.without.ensures ∙ tried-skipped (terms_of s.f) s.n (take s.n s.c.values) i.interpolate-a.result i.interpolate-a.ensures _ c.in-Refused.is
 
-enum-told-2 : tie.Need-enum-told-2
+enum-told-2 : tie.Need-enum_told-in_default
 enum-told-2 c = search rules
 
 judge-requires : tie.Need-judge-requires
 judge-requires c κs = tt
 
-returns-2 : tie.Need-returns-2
+returns-2 : tie.Need-returns
 returns-2 c =
-    let i = c.before.before.before.before in
-    let s = i.before.args in
-    c.judge.ensures ∙ tried-judged (terms_of s.f) s.n (take s.n s.c.values) i.interpolate.result i.interpolate.ensures c.before.before.enum-told2.given.1
+    let i = c in
+    let s = i.args in
+    c.judge.ensures ∙ tried-judged (terms_of s.f) s.n (take s.n s.c.values) i.interpolate-a.result i.interpolate-a.ensures c.in_default.is
 
-pub try-one-spec : {M : Type 1} → statement M
-try-one-spec =
+pub try_one_spec : {M : Type 1} → statement M
+try_one_spec =
     tie.close
     (tie.spec
     interpolate-requires

@@ -9,29 +9,29 @@ use Rattle.kronecker.proofs.value.Statement.{statement}
 use Rattle.kronecker.proofs.value.Tie as tie
 
 -- the value that is asked for
-told : (c : tie.After-value-at) → value_at (terms_of c.before.before.args.f) c.before.before.args.j ≡ c.value-at.result
-told c = sym (c.value-at.ensures ∙ ap (value_of (terms_of c.before.before.args.f)) c.before.point.ensures)
+told : (c : tie.After-value_at) → value_at (terms_of c.args.f) c.args.j ≡ c.value_at.result
+told c = sym (c.value_at.ensures ∙ ap (value_of (terms_of c.args.f)) c.point.ensures)
 
 point-requires : tie.Need-point-requires
 point-requires c κs = tt
 
-value-at-requires : tie.Need-value-at-requires
+value-at-requires : tie.Need-value_at-requires
 value-at-requires c κs = tt
 
-enum-known-v : tie.Need-enum-known-v
+enum-known-v : tie.Need-enum_known-v
 enum-known-v c = search rules
 
-enum_told : tie.Need-enum-told
+enum_told : tie.Need-enum_told-1
 enum_told c = search rules
 
 whole-requires : tie.Need-whole-requires
 whole-requires c κs = tt
 
-returns : tie.Need-returns
-returns c = c.whole.ensures ∙ sym (ap ratio_of (told c.before.before.before ∙ c.before.enum_told.given.1))
+returns : tie.Need-returns-in_default
+returns c = c.whole.ensures ∙ sym (ap ratio_of (told c.before.before ∙ c.in_default.is))
 
-returns-2 : tie.Need-returns-2
-returns-2 c = sym (ap ratio_of (told c.before.before.before ∙ c.before.v.given.1))
+returns-2 : tie.Need-returns
+returns-2 c = sym (ap ratio_of (told c.before ∙ c.in-Done.is))
 
 pub value_spec : {M : Type 1} → statement M
 value_spec =

@@ -9,7 +9,7 @@ zero-requires : tie.Need-zero-requires
 zero-requires c κs = tt
 
 returns : tie.Need-returns
-returns c = ap {B = Split} (λ (p : Poly). record { verdict = c.before.args.v; factor = p }) c.zero.ensures
+returns c = ap {B = Split} (λ (p : Poly). record { verdict = c.args.v; factor = p }) c.zero.ensures
 
-pub without-spec : {M : Type 1} → statement M
-without-spec = tie.close (tie.spec zero-requires returns)
+pub without_spec : {M : Type 1} → statement M
+without_spec = tie.close (tie.spec zero-requires returns)

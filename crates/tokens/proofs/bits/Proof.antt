@@ -7,15 +7,15 @@ use Rattle.tokens.proofs.bits.Statement.{statement}
 use Rattle.tokens.proofs.bits.Tie as tie
 
 spelled-requires : tie.Need-spelled-requires
-spelled-requires c κs = rw c.if1.true (omega arith)
+spelled-requires c κs = rw c.if-digits-eq16.true (omega arith)
 
-returns : tie.Need-returns
+returns : tie.Need-returns-then-digits-eq16
 unfolding bits_of
-returns c = let s = c.before.before.before.args in rw (eq-eqb (length s.digits.now) 16 c.before.if1.true) c.spelled.ensures
+returns c = let s = c.args in rw (eq-eqb (length s.digits.now) 16 c.if-digits-eq16.true) c.spelled.ensures
 
-returns-2 : tie.Need-returns-2
+returns-2 : tie.Need-returns-else-digits-eq16
 unfolding bits_of
-returns-2 c = let s = c.before.before.args in rw (ne_eqb (length s.digits.now) 16 c.if1.false)
+returns-2 c = let s = c.args in rw (ne_eqb (length s.digits.now) 16 c.if-digits-eq16.false)
 
-pub bits-spec : {M : Type 1} → statement M
-bits-spec = tie.close (tie.spec spelled-requires returns returns-2)
+pub bits_spec : {M : Type 1} → statement M
+bits_spec = tie.close (tie.spec spelled-requires returns returns-2)

@@ -5,14 +5,14 @@ use borrow.Author.Rules.{rules}
 use Rattle.tokens.proofs.float.Statement.{statement}
 use Rattle.tokens.proofs.float.Tie as tie
 
-float-from-bits-result : tie.Need-float-from-bits-result
-float-from-bits-result c = no_nan c.before.args.n c.if1.false
+float-from-bits-result : tie.Need-float_from_bits-result
+float-from-bits-result c = no_nan c.args.n c.if-n-gt9218868437227405312.false
 
-returns : tie.Need-returns
-returns c = quotient-nan ∙ sym (is-nan c.before.args.n c.if1.true)
+returns : tie.Need-returns-then-n-gt9218868437227405312
+returns c = quotient-nan ∙ sym (is-nan c.args.n c.if-n-gt9218868437227405312.true)
 
-returns-2 : tie.Need-returns-2
+returns-2 : tie.Need-returns-else-n-gt9218868437227405312
 returns-2 c = search rules
 
-pub float-spec : {M : Type 1} → statement M
-float-spec = tie.close (tie.spec float-from-bits-result returns returns-2)
+pub float_spec : {M : Type 1} → statement M
+float_spec = tie.close (tie.spec float-from-bits-result returns returns-2)

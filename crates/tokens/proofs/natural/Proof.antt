@@ -10,29 +10,29 @@ use Rattle.tokens.proofs.natural.Tie as tie
 spelled-requires : tie.Need-spelled-requires
 spelled-requires c κs = ten-fits _ (omega arith)
 
-shared-slice-read-if4 : tie.Need-shared-slice-read-if4
+shared-slice-read-if4 : tie.Need-bounds-digits-0
 shared-slice-read-if4 c = search rules
 
-spelled-requires-2 : tie.Need-spelled-requires-2
+spelled-requires-2 : tie.Need-spelled-requires-else-digits-eq48
 spelled-requires-2 c κs = ten-fits _ (omega arith)
 
-returns : tie.Need-returns
-returns c = natural-long c.before.before.args.digits.now c.if1.true
+returns : tie.Need-returns-then-digits-gt19
+returns c = natural-long c.args.digits.now c.if-digits-gt19.true
 
-returns-2 : tie.Need-returns-2
-returns-2 c = natural-none c.before.before.before.args.digits.now c.if2.true
+returns-2 : tie.Need-returns-then-digits-eq0
+returns-2 c = natural-none c.args.digits.now c.if-digits-eq0.true
 
-returns-3 : tie.Need-returns-3
-returns-3 c = c.spelled.ensures ∙ natural-one c.before.before.before.before.before.args.digits.now c.before.if3.true
+returns-3 : tie.Need-returns-then-digits-eq1
+returns-3 c = c.spelled.ensures ∙ natural-one c.args.digits.now c.if-digits-eq1.true
 
-returns-4 : tie.Need-returns-4
-returns-4 c = natural-zero c.before.before.before.before.before.before.args.digits.now (omega arith) c.if4.true (omega arith)
+returns-4 : tie.Need-returns-then-digits-eq48
+returns-4 c = natural-zero c.args.digits.now (omega arith) c.if-digits-eq48.true (omega arith)
 
-returns-5 : tie.Need-returns-5
-returns-5 c = c.spelled2.ensures ∙ natural-more c.before.before.before.before.before.before.before.args.digits.now (omega arith) c.before.if4.false (omega arith)
+returns-5 : tie.Need-returns-else-digits-eq48
+returns-5 c = c.spelled-else-digits-eq48.ensures ∙ natural-more c.args.digits.now (omega arith) c.if-digits-eq48.false (omega arith)
 
-pub natural-spec : {M : Type 1} → statement M
-natural-spec =
+pub natural_spec : {M : Type 1} → statement M
+natural_spec =
     tie.close
     (tie.spec
     spelled-requires

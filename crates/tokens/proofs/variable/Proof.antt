@@ -12,7 +12,7 @@ index-requires c κs = tt
 
 returns : tie.Need-returns
 unfolding var_of
-returns c = c.index.ensures ∙ ap index_of c.before.natural.ensures
+returns c = c.index.ensures ∙ ap index_of c.natural.ensures
 
-pub variable-spec : {M : Type 1} → statement M
-variable-spec = tie.close (tie.spec natural-requires index-requires returns)
+pub variable_spec : {M : Type 1} → statement M
+variable_spec = tie.close (tie.spec natural-requires index-requires returns)

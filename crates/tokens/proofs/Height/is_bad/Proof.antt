@@ -4,22 +4,22 @@ use borrow.Author.Rules.{rules}
 use Rattle.tokens.proofs.Height.is_bad.Statement.{statement}
 use Rattle.tokens.proofs.Height.is_bad.Tie as tie
 
-is-malformed-requires : tie.Need-is-malformed-requires
+is-malformed-requires : tie.Need-is_malformed-requires
 is-malformed-requires c κs = tt
 
-returns : tie.Need-returns
+returns : tie.Need-returns-then-is_malformed
 returns c = search rules
 
-returns-2 : tie.Need-returns-2
+returns-2 : tie.Need-returns-then-self
 returns-2 c = search rules
 
 takes-requires : tie.Need-takes-requires
 takes-requires c κs = tt
 
-returns-3 : tie.Need-returns-3
+returns-3 : tie.Need-returns
 returns-3 c =
-    let m = c.before.before.before in
-    rw (sym m.before.is-malformed.ensures ∙ m.if1.false, c.before.before.if2.false, c.before.takes.ensures)
+    let m = c in
+    rw (sym m.is_malformed.ensures ∙ m.if-is_malformed.false, c.if-self.false, c.takes.ensures)
 
-pub is-bad-spec : {M : Type 1} → statement M
-is-bad-spec = tie.close (tie.spec is-malformed-requires returns returns-2 takes-requires returns-3)
+pub is_bad_spec : {M : Type 1} → statement M
+is_bad_spec = tie.close (tie.spec is-malformed-requires returns returns-2 takes-requires returns-3)
