@@ -36,6 +36,7 @@ use Rattle.splitting.proofs.MeaningPeel.{Whole, parts_whole, Peels, all-peels}
 -- ---- an answered search that found nothing
 
 none_has : {P : Ratio → Type 0} (l : List Ratio) → length l ≡ 0 → Has P l → ⊥
+none_has {P = P} [] e x'' = elim x'' [ ]
 none_has (a ∷ l) e (here p) = omega arith
 none_has (a ∷ l) e (there h) = omega arith
 

@@ -12,7 +12,7 @@ signed-requires : tie.Need-signed-requires
 signed-requires c κs = tt
 
 returns : tie.Need-returns
-returns c = c.signed.ensures ∙ ap (whole_of false) c.before.natural.ensures
+returns c = c.signed.ensures ∙ ap (whole_of false) c.natural.ensures
 
-pub denominator-spec : {M : Type 1} → statement M
-denominator-spec = tie.close (tie.spec natural-requires signed-requires returns)
+pub denominator_spec : {M : Type 1} → statement M
+denominator_spec = tie.close (tie.spec natural-requires signed-requires returns)

@@ -9,25 +9,25 @@ use borrow.Author.Rules.{rules}
 use Rattle.reading.proofs.read_ratio.Statement.{statement}
 use Rattle.reading.proofs.read_ratio.Tie as tie
 
-part-end-requires : tie.Need-part-end-requires
+part-end-requires : tie.Need-part_end-end-requires
 part-end-requires c κs = tt
 
-slice-aggregate-numerator : tie.Need-slice-aggregate-numerator
-slice-aggregate-numerator c = sym (length-take-le _ c.before.before.before.before.args.word.now (omega (arith, c.before.if1.true)))
+slice-aggregate-numerator : tie.Need-slice_bounds-numerator-end
+slice-aggregate-numerator c = sym (length-take-le _ c.args.word.now (omega (arith, c.if-end-word.true)))
 
 numerator-requires : tie.Need-numerator-requires
 numerator-requires c κs = tt
 
-add-denominator : tie.Need-overflow-add-denominator
+add-denominator : tie.Need-overflow_add-end
 add-denominator c = search rules
 
-sub-denominator : tie.Need-overflow-sub-denominator
+sub-denominator : tie.Need-slice_bounds-denominator-count
 sub-denominator c = search rules
 
-part-denominator-start : tie.Need-slice-bounds-denominator-start
+part-denominator-start : tie.Need-slice_bounds-denominator-start
 part-denominator-start c = search rules
 
-part-denominator-end : tie.Need-slice-bounds-denominator-end
+part-denominator-end : tie.Need-slice_bounds-denominator-end
 part-denominator-end c = search rules
 
 denominator-requires : tie.Need-denominator-requires
@@ -36,28 +36,28 @@ denominator-requires c κs = tt
 fraction-requires : tie.Need-fraction-requires
 fraction-requires c κs = tt
 
-numerator-requires-2 : tie.Need-numerator-requires-2
+numerator-requires-2 : tie.Need-numerator-requires-else-end-word
 numerator-requires-2 c κs = tt
 
 integer-requires : tie.Need-integer-requires
 integer-requires c κs = tt
 
-returns : tie.Need-returns
+returns : tie.Need-returns-then-end-word
 returns c =
-    let d = c.before in
-    let n = d.before.before in
-    let w = n.before.before.before.before.before.args.word.now in
+    let d = c in
+    let n = d in
+    let w = n.args.word.now in
     ratio-both w
-    (c.fraction.ensures ∙ ap₂ fraction_step n.numerator.ensures (d.denominator.ensures ∙ ap denominator_of (rest-whole w _)) ∙ ratio-fraction w _ n.before.before.before.part-end.ensures n.before.before.if1.true)
+    (c.fraction.ensures ∙ ap₂ fraction_step n.numerator.ensures (d.denominator.ensures ∙ ap denominator_of (rest-whole w _)) ∙ ratio-fraction w _ n.part_end-end.ensures n.if-end-word.true)
 
-returns-2 : tie.Need-returns-2
+returns-2 : tie.Need-returns-else-end-word
 returns-2 c =
-    let w = c.before.before.before.before.before.args.word.now in
+    let w = c.args.word.now in
     ratio-both w
-    (c.integer.ensures ∙ ap whole_step c.before.numerator2.ensures ∙ ratio-whole w _ c.before.before.before.part-end.ensures c.before.before.if1.false)
+    (c.integer.ensures ∙ ap whole_step c.numerator-else-end-word.ensures ∙ ratio-whole w _ c.part_end-end.ensures c.if-end-word.false)
 
-pub read-ratio-spec : {M : Type 1} → statement M
-read-ratio-spec =
+pub read_ratio_spec : {M : Type 1} → statement M
+read_ratio_spec =
     tie.close
     (tie.spec
     part-end-requires

@@ -24,42 +24,42 @@ refused-requires c κs = tt
 push-requires : tie.Need-push-requires
 push-requires c κs = search rules
 
-done-requires-2 : tie.Need-done-requires-2
+done-requires-2 : tie.Need-done-requires-else-n-gt31
 done-requires-2 c κs = tt
 
 -- whether the coefficient is zero
-nil_is : (c : tie.Then1) → is_nil c.before.before.before.args.c.num ≡ true
-nil_is c = nil-bits c.before.before.before.args.c.num (record { sfits = c.before.struct_told.given.0.1 }) c.if1.true
+nil_is : (c : tie.Then-c-eq0) → is_nil c.args.c.num ≡ true
+nil_is c = nil-bits c.args.c.num (record { sfits = c.struct_told-1.given.0.1 }) c.if-c-eq0.true
 
-nil_not : (c : tie.Else1) → is_nil c.before.before.before.args.c.num ≡ false
-nil_not c = some_bits c.before.before.before.args.c.num (record { sfits = c.before.struct_told.given.0.1 }) c.if1.false
+nil_not : (c : tie.Else-c-eq0) → is_nil c.args.c.num ≡ false
+nil_not c = some_bits c.args.c.num (record { sfits = c.struct_told-1.given.0.1 }) c.if-c-eq0.false
 
-returns : tie.Need-returns
+returns : tie.Need-returns-then-n-eq0
 returns c =
-    let n = c.before.before.before in
-    let s = n.before.before.before.args in
-    λ l h. c.done.ensures ∙ ap (λ p. done_with p 0) c.before.zero.ensures ∙ top-alone l s.p s.c h s.at (nil_is n) c.before.before.if2.true
+    let n = c in
+    let s = n.args in
+    λ l h. c.done.ensures ∙ ap (λ p. done_with p 0) c.zero.ensures ∙ top-alone l s.p s.c h s.at (nil_is n.before.before.before) c.if-n-eq0.true
 
-returns-2 : tie.Need-returns-2
+returns-2 : tie.Need-returns-else-n-eq0
 returns-2 c =
-    let n = c.before.before in
-    let s = n.before.before.before.args in
-    λ l h. c.bad.ensures ∙ top-zero l s.p s.c h s.at (nil_is n) c.before.if2.false
+    let n = c in
+    let s = n.args in
+    λ l h. c.bad.ensures ∙ top-zero l s.p s.c h s.at (nil_is n.before.before) c.if-n-eq0.false
 
-returns-3 : tie.Need-returns-3
+returns-3 : tie.Need-returns-then-n-gt31
 returns-3 c =
-    let n = c.before.before in
-    let s = n.before.before.before.args in
-    λ l h. c.refused.ensures ∙ top-long l s.p s.c h s.at (nil_not n) c.before.if3.true
+    let n = c in
+    let s = n.args in
+    λ l h. c.refused.ensures ∙ top-long l s.p s.c h s.at (nil_not n.before.before) c.if-n-gt31.true
 
-returns-4 : tie.Need-returns-4
+returns-4 : tie.Need-returns-else-n-gt31
 returns-4 c =
-    let n = c.before.before.before in
-    let s = n.before.before.before.args in
-    λ l h. c.done2.ensures ∙ top-done l s.p s.c h s.at (nil_not n) c.before.before.if3.false c.before.push.result (c.before.push.ensures l h)
+    let n = c in
+    let s = n.args in
+    λ l h. c.done-else-n-gt31.ensures ∙ top-done l s.p s.c h s.at (nil_not n.before.before.before) c.if-n-gt31.false c.push.result (c.push.ensures l h)
 
-pub top-spec : {M : Type 1} → statement M
-top-spec =
+pub top_spec : {M : Type 1} → statement M
+top_spec =
     tie.close
     (tie.spec
     zero-requires

@@ -48,171 +48,171 @@ calls t = (
   halve-reads.Learnt,
 )
 
-split-length-requires : (t : ℕ) → split-lts.Need-length-requires (calls t) (split_at t) split.Post
+split-length-requires : (t : ℕ) → split-lts.Need-length-n-requires (calls t) (split_at t) split.Post
 split-length-requires t c κs = tt
 
 split-add-requires : (t : ℕ) → split-lts.Need-add-requires (calls t) (split_at t) split.Post
-split-add-requires t c κs = (c.before.before.requires.1.0, c.before.before.requires.1.1)
+split-add-requires t c κs = (c.requires.1.0, c.requires.1.1)
 
-split-returns : (t : ℕ) → split-lts.Need-returns (calls t) (split_at t) split.Post
+split-returns : (t : ℕ) → split-lts.Need-returns-then-n-lt3 (calls t) (split_at t) split.Post
 split-returns t c =
-    let z = c.before.before.before in
+    let z = c in
     let s = z.args in
-    let n = c.before.before in
-    splits-short (terms_of s.f) s.times s.budget s.found z.requires.1.0 (omega (arith, n.length.ensures)) c.add.result c.add.ensures
+    let n = c in
+    splits-short (terms_of s.f) s.times s.budget s.found z.requires.1.0 (omega (arith, n.length-n.ensures)) c.add.result c.add.ensures
 
-split-roots-of-requires : (t : ℕ) → split-lts.Need-roots-of-requires (calls t) (split_at t) split.Post
+split-roots-of-requires : (t : ℕ) → split-lts.Need-roots_of-roots-requires (calls t) (split_at t) split.Post
 split-roots-of-requires t c κs = tt
 
-split-enum-known-ro : (t : ℕ) → split-lts.Need-enum-known-ro (calls t) (split_at t) split.Post
+split-enum-known-ro : (t : ℕ) → split-lts.Need-enum_known-ro (calls t) (split_at t) split.Post
 split-enum-known-ro t c = search rules
 
 split-refused-requires : (t : ℕ) → split-lts.Need-refused-requires (calls t) (split_at t) split.Post
 split-refused-requires t c κs = tt
 
-split-returns-2 : (t : ℕ) → split-lts.Need-returns-2 (calls t) (split_at t) split.Post
+split-returns-2 : (t : ℕ) → split-lts.Need-returns-in-Refused (calls t) (split_at t) split.Post
 split-returns-2 t c =
-    let z = c.before.before.before.before.before.before.before in
+    let z = c in
     let s = z.args in
-    let n = c.before.before.before.before.before.before in
-    let r = c.before.before.before.before in
-    splits-refused (terms_of s.f) s.times s.budget s.found z.requires.1.0 (omega (arith, n.length.ensures)) r.roots-of.result r.roots-of.ensures _ c.before.before.ro.given.1 c.refused.result c.refused.ensures
+    let n = c in
+    let r = c in
+    splits-refused (terms_of s.f) s.times s.budget s.found z.requires.1.0 (omega (arith, n.length-n.ensures)) r.roots_of-roots.result r.roots_of-roots.ensures _ c.in-Refused.is c.refused.result c.refused.ensures
 
-split-enum-told : (t : ℕ) → split-lts.Need-enum-told (calls t) (split_at t) split.Post
+split-enum-told : (t : ℕ) → split-lts.Need-enum_told-1 (calls t) (split_at t) split.Post
 split-enum-told t c = search rules
 
-split-peel-requires : (t : ℕ) → split-lts.Need-peel-requires (calls t) (split_at t) split.Post
-split-peel-requires t c κs = (c.before.before.before.before.before.before.before.requires.1.0, c.before.before.before.before.before.before.before.requires.1.1)
+split-peel-requires : (t : ℕ) → split-lts.Need-peel-l-requires (calls t) (split_at t) split.Post
+split-peel-requires t c κs = (c.requires.1.0, c.requires.1.1)
 
-split-length-requires-2 : (t : ℕ) → split-lts.Need-length-requires-2 (calls t) (split_at t) split.Post
+split-length-requires-2 : (t : ℕ) → split-lts.Need-length-m-requires (calls t) (split_at t) split.Post
 split-length-requires-2 t c κs = tt
 
-split-returns-3 : (t : ℕ) → split-lts.Need-returns-3 (calls t) (split_at t) split.Post
+split-returns-3 : (t : ℕ) → split-lts.Need-returns-then-m-lt2 (calls t) (split_at t) split.Post
 split-returns-3 t c =
-    let z = c.before.before.before.before.before.before.before.before.before.before.before in
+    let z = c in
     let s = z.args in
-    let n = c.before.before.before.before.before.before.before.before.before.before in
-    let r = c.before.before.before.before.before.before.before.before in
-    let p = c.before.before.before in
-    splits-few (terms_of s.f) s.times s.budget s.found z.requires.1.0 (omega (arith, n.length.ensures)) r.roots-of.result r.roots-of.ensures c.before.before.before.before.before.before.enum_told.given.1 (omega (arith, c.before.before.before.before.if2.true)) p.peel.result p.peel.ensures (omega (arith, c.before.before.length2.ensures))
+    let n = c in
+    let r = c in
+    let p = c in
+    splits-few (terms_of s.f) s.times s.budget s.found z.requires.1.0 (omega (arith, n.length-n.ensures)) r.roots_of-roots.result r.roots_of-roots.ensures c.in_default.is (omega (arith, c.if-roots-gt0.true)) p.peel-l.result p.peel-l.ensures (omega (arith, c.length-m.ensures))
 
 split-split-requires : (t : ℕ) → split-lts.Need-split-requires (calls t) (split_at t) split.Post
 split-split-requires t c κs =
-    let z = c.before.before.before.before.before.before.before.before.before.before.before in
+    let z = c in
     let s = z.args in
-    let n = c.before.before.before.before.before.before.before.before.before.before in
-    let r = c.before.before.before.before.before.before.before.before in
-    let p = c.before.before.before in
-    let d = peel-done (terms_of s.f) s.times s.budget s.found z.requires.1.0 (omega (arith, n.length.ensures)) r.roots-of.result r.roots-of.ensures c.before.before.before.before.before.before.enum_told.given.1 (omega (arith, c.before.before.before.before.if2.true)) p.peel.result p.peel.ensures (omega (arith, c.before.before.length2.ensures)) in
-    (omega (arith, z.requires.0, n.length.ensures, c.before.before.length2.ensures), (peel-kept-list (terms_of s.f) s.times s.budget s.found z.requires.1.0 (omega (arith, n.length.ensures)) r.roots-of.result r.roots-of.ensures c.before.before.before.before.before.before.enum_told.given.1 (omega (arith, c.before.before.before.before.if2.true)) p.peel.result p.peel.ensures d, peel-padded (terms_of s.f) s.times s.budget s.found z.requires.1.0 (omega (arith, n.length.ensures)) r.roots-of.result r.roots-of.ensures c.before.before.before.before.before.before.enum_told.given.1 (omega (arith, c.before.before.before.before.if2.true)) p.peel.result p.peel.ensures d))
+    let n = c in
+    let r = c in
+    let p = c in
+    let d = peel-done (terms_of s.f) s.times s.budget s.found z.requires.1.0 (omega (arith, n.length-n.ensures)) r.roots_of-roots.result r.roots_of-roots.ensures c.in_default.is (omega (arith, c.if-roots-gt0.true)) p.peel-l.result p.peel-l.ensures (omega (arith, c.length-m.ensures)) in
+    (omega (arith, z.requires.0, n.length-n.ensures, c.length-m.ensures), (peel-kept-list (terms_of s.f) s.times s.budget s.found z.requires.1.0 (omega (arith, n.length-n.ensures)) r.roots_of-roots.result r.roots_of-roots.ensures c.in_default.is (omega (arith, c.if-roots-gt0.true)) p.peel-l.result p.peel-l.ensures d, peel-padded (terms_of s.f) s.times s.budget s.found z.requires.1.0 (omega (arith, n.length-n.ensures)) r.roots_of-roots.result r.roots_of-roots.ensures c.in_default.is (omega (arith, c.if-roots-gt0.true)) p.peel-l.result p.peel-l.ensures d))
 
-split-returns-4 : (t : ℕ) → split-lts.Need-returns-4 (calls t) (split_at t) split.Post
+split-returns-4 : (t : ℕ) → split-lts.Need-returns-then-m-n (calls t) (split_at t) split.Post
 split-returns-4 t c =
-    let z = c.before.before.before.before.before.before.before.before.before.before.before.before in
+    let z = c in
     let s = z.args in
-    let n = c.before.before.before.before.before.before.before.before.before.before.before in
-    let r = c.before.before.before.before.before.before.before.before.before in
-    let p = c.before.before.before.before in
-    let d = peel-done (terms_of s.f) s.times s.budget s.found z.requires.1.0 (omega (arith, n.length.ensures)) r.roots-of.result r.roots-of.ensures c.before.before.before.before.before.before.before.enum_told.given.1 (omega (arith, c.before.before.before.before.before.if2.true)) p.peel.result p.peel.ensures (omega (arith, c.before.before.before.length2.ensures)) in
-    splits-rest (terms_of s.f) s.times s.budget s.found z.requires.1.0 (omega (arith, n.length.ensures)) r.roots-of.result r.roots-of.ensures c.before.before.before.before.before.before.before.enum_told.given.1 (omega (arith, c.before.before.before.before.before.if2.true)) p.peel.result p.peel.ensures d (omega (arith, n.length.ensures, c.before.before.before.length2.ensures)) c.split.result c.split.ensures
+    let n = c in
+    let r = c in
+    let p = c in
+    let d = peel-done (terms_of s.f) s.times s.budget s.found z.requires.1.0 (omega (arith, n.length-n.ensures)) r.roots_of-roots.result r.roots_of-roots.ensures c.in_default.is (omega (arith, c.if-roots-gt0.true)) p.peel-l.result p.peel-l.ensures (omega (arith, c.length-m.ensures)) in
+    splits-rest (terms_of s.f) s.times s.budget s.found z.requires.1.0 (omega (arith, n.length-n.ensures)) r.roots_of-roots.result r.roots_of-roots.ensures c.in_default.is (omega (arith, c.if-roots-gt0.true)) p.peel-l.result p.peel-l.ensures d (omega (arith, n.length-n.ensures, c.length-m.ensures)) c.split.result c.split.ensures
 
-split-add-requires-2 : (t : ℕ) → split-lts.Need-add-requires-2 (calls t) (split_at t) split.Post
+split-add-requires-2 : (t : ℕ) → split-lts.Need-add-requires-then-roots-gt0 (calls t) (split_at t) split.Post
 split-add-requires-2 t c κs =
-    let z = c.before.before.before.before.before.before.before.before.before.before.before in
+    let z = c in
     let s = z.args in
-    let n = c.before.before.before.before.before.before.before.before.before.before in
-    let r = c.before.before.before.before.before.before.before.before in
-    let p = c.before.before.before in
-    let d = peel-done (terms_of s.f) s.times s.budget s.found z.requires.1.0 (omega (arith, n.length.ensures)) r.roots-of.result r.roots-of.ensures c.before.before.before.before.before.before.enum_told.given.1 (omega (arith, c.before.before.before.before.if2.true)) p.peel.result p.peel.ensures (omega (arith, c.before.before.length2.ensures)) in
-    (peel-kept-list (terms_of s.f) s.times s.budget s.found z.requires.1.0 (omega (arith, n.length.ensures)) r.roots-of.result r.roots-of.ensures c.before.before.before.before.before.before.enum_told.given.1 (omega (arith, c.before.before.before.before.if2.true)) p.peel.result p.peel.ensures d, peel-padded (terms_of s.f) s.times s.budget s.found z.requires.1.0 (omega (arith, n.length.ensures)) r.roots-of.result r.roots-of.ensures c.before.before.before.before.before.before.enum_told.given.1 (omega (arith, c.before.before.before.before.if2.true)) p.peel.result p.peel.ensures d)
+    let n = c in
+    let r = c in
+    let p = c in
+    let d = peel-done (terms_of s.f) s.times s.budget s.found z.requires.1.0 (omega (arith, n.length-n.ensures)) r.roots_of-roots.result r.roots_of-roots.ensures c.in_default.is (omega (arith, c.if-roots-gt0.true)) p.peel-l.result p.peel-l.ensures (omega (arith, c.length-m.ensures)) in
+    (peel-kept-list (terms_of s.f) s.times s.budget s.found z.requires.1.0 (omega (arith, n.length-n.ensures)) r.roots_of-roots.result r.roots_of-roots.ensures c.in_default.is (omega (arith, c.if-roots-gt0.true)) p.peel-l.result p.peel-l.ensures d, peel-padded (terms_of s.f) s.times s.budget s.found z.requires.1.0 (omega (arith, n.length-n.ensures)) r.roots_of-roots.result r.roots_of-roots.ensures c.in_default.is (omega (arith, c.if-roots-gt0.true)) p.peel-l.result p.peel-l.ensures d)
 
-split-returns-5 : (t : ℕ) → split-lts.Need-returns-5 (calls t) (split_at t) split.Post
+split-returns-5 : (t : ℕ) → split-lts.Need-returns-then-roots-gt0 (calls t) (split_at t) split.Post
 split-returns-5 t c =
-    let z = c.before.before.before.before.before.before.before.before.before.before.before.before in
+    let z = c in
     let s = z.args in
-    let n = c.before.before.before.before.before.before.before.before.before.before.before in
-    let r = c.before.before.before.before.before.before.before.before.before in
-    let p = c.before.before.before.before in
-    let d = peel-done (terms_of s.f) s.times s.budget s.found z.requires.1.0 (omega (arith, n.length.ensures)) r.roots-of.result r.roots-of.ensures c.before.before.before.before.before.before.before.enum_told.given.1 (omega (arith, c.before.before.before.before.before.if2.true)) p.peel.result p.peel.ensures (omega (arith, c.before.before.before.length2.ensures)) in
-    splits-kept (terms_of s.f) s.times s.budget s.found z.requires.1.0 (omega (arith, n.length.ensures)) r.roots-of.result r.roots-of.ensures c.before.before.before.before.before.before.before.enum_told.given.1 (omega (arith, c.before.before.before.before.before.if2.true)) p.peel.result p.peel.ensures d (omega (arith, n.length.ensures, c.before.before.before.length2.ensures)) c.add2.result c.add2.ensures
+    let n = c in
+    let r = c in
+    let p = c in
+    let d = peel-done (terms_of s.f) s.times s.budget s.found z.requires.1.0 (omega (arith, n.length-n.ensures)) r.roots_of-roots.result r.roots_of-roots.ensures c.in_default.is (omega (arith, c.if-roots-gt0.true)) p.peel-l.result p.peel-l.ensures (omega (arith, c.length-m.ensures)) in
+    splits-kept (terms_of s.f) s.times s.budget s.found z.requires.1.0 (omega (arith, n.length-n.ensures)) r.roots_of-roots.result r.roots_of-roots.ensures c.in_default.is (omega (arith, c.if-roots-gt0.true)) p.peel-l.result p.peel-l.ensures d (omega (arith, n.length-n.ensures, c.length-m.ensures)) c.add-then-roots-gt0.result c.add-then-roots-gt0.ensures
 
-split-halve-requires : (t : ℕ) → split-lts.Need-halve-requires (calls t) (split_at t) split.Post
+split-halve-requires : (t : ℕ) → split-lts.Need-halve-p-requires (calls t) (split_at t) split.Post
 split-halve-requires t c κs = tt
 
-split-enum-known-po : (t : ℕ) → split-lts.Need-enum-known-po (calls t) (split_at t) split.Post
+split-enum-known-po : (t : ℕ) → split-lts.Need-enum_known-po (calls t) (split_at t) split.Post
 split-enum-known-po t c = search rules
 
-split-refused-requires-2 : (t : ℕ) → split-lts.Need-refused-requires-2 (calls t) (split_at t) split.Post
+split-refused-requires-2 : (t : ℕ) → split-lts.Need-refused-requires-in-Refused-po (calls t) (split_at t) split.Post
 split-refused-requires-2 t c κs = tt
 
-split-returns-6 : (t : ℕ) → split-lts.Need-returns-6 (calls t) (split_at t) split.Post
+split-returns-6 : (t : ℕ) → split-lts.Need-returns-in-Refused-po (calls t) (split_at t) split.Post
 split-returns-6 t c =
-    let z = c.before.before.before.before.before.before.before.before.before.before.before.before in
+    let z = c in
     let s = z.args in
-    let n = c.before.before.before.before.before.before.before.before.before.before.before in
-    let r = c.before.before.before.before.before.before.before.before.before in
-    let h = c.before.before.before.before in
-    splits-pairless (terms_of s.f) s.times s.budget s.found z.requires.1.0 (omega (arith, n.length.ensures)) r.roots-of.result r.roots-of.ensures c.before.before.before.before.before.before.before.enum_told.given.1 (omega (arith, c.before.before.before.before.before.if2.false)) h.halve.result h.halve.ensures.0 _ c.before.before.po.given.1 c.refused2.result c.refused2.ensures
+    let n = c in
+    let r = c in
+    let h = c in
+    splits-pairless (terms_of s.f) s.times s.budget s.found z.requires.1.0 (omega (arith, n.length-n.ensures)) r.roots_of-roots.result r.roots_of-roots.ensures c.in_default.is (omega (arith, c.if-roots-gt0.false)) h.halve-p.result h.halve-p.ensures.0 _ c.in-Refused-po.is c.refused-in-Refused-po.result c.refused-in-Refused-po.ensures
 
-split-enum-told-2 : (t : ℕ) → split-lts.Need-enum-told-2 (calls t) (split_at t) split.Post
+split-enum-told-2 : (t : ℕ) → split-lts.Need-enum_told-in_default-po (calls t) (split_at t) split.Post
 split-enum-told-2 t c = search rules
 
-split-add-requires-3 : (t : ℕ) → split-lts.Need-add-requires-3 (calls t) (split_at t) split.Post
-split-add-requires-3 t c κs = (c.before.before.before.before.before.before.before.before.before.before.before.before.requires.1.0, c.before.before.before.before.before.before.before.before.before.before.before.before.requires.1.1)
+split-add-requires-3 : (t : ℕ) → split-lts.Need-add-requires-then-not-p (calls t) (split_at t) split.Post
+split-add-requires-3 t c κs = (c.requires.1.0, c.requires.1.1)
 
-split-returns-7 : (t : ℕ) → split-lts.Need-returns-7 (calls t) (split_at t) split.Post
+split-returns-7 : (t : ℕ) → split-lts.Need-returns-then-not-p (calls t) (split_at t) split.Post
 split-returns-7 t c =
-    let z = c.before.before.before.before.before.before.before.before.before.before.before.before.before in
+    let z = c in
     let s = z.args in
-    let n = c.before.before.before.before.before.before.before.before.before.before.before.before in
-    let r = c.before.before.before.before.before.before.before.before.before.before in
-    let h = c.before.before.before.before.before in
-    splits-whole (terms_of s.f) s.times s.budget s.found z.requires.1.0 (omega (arith, n.length.ensures)) r.roots-of.result r.roots-of.ensures c.before.before.before.before.before.before.before.before.enum_told.given.1 (omega (arith, c.before.before.before.before.before.before.if2.false)) h.halve.result h.halve.ensures.0 c.before.before.before.enum-told2.given.1 (not-true _ c.before.if5.true) c.add3.result c.add3.ensures
+    let n = c in
+    let r = c in
+    let h = c in
+    splits-whole (terms_of s.f) s.times s.budget s.found z.requires.1.0 (omega (arith, n.length-n.ensures)) r.roots_of-roots.result r.roots_of-roots.ensures c.in_default.is (omega (arith, c.if-roots-gt0.false)) h.halve-p.result h.halve-p.ensures.0 c.in_default-po.is (not-true _ c.if-not-p.true) c.add-then-not-p.result c.add-then-not-p.ensures
 
-split-split-requires-2 : (t : ℕ) → split-lts.Need-split-requires-2 (calls t) (split_at t) split.Post
+split-split-requires-2 : (t : ℕ) → split-lts.Need-split-a-requires (calls t) (split_at t) split.Post
 split-split-requires-2 t c κs =
-    let z = c.before.before.before.before.before.before.before.before.before.before.before.before in
+    let z = c in
     let s = z.args in
-    let n = c.before.before.before.before.before.before.before.before.before.before.before in
-    let r = c.before.before.before.before.before.before.before.before.before in
-    let h = c.before.before.before.before in
-    (omega (arith, z.requires.0, first-shorter (terms_of s.f) s.times s.budget s.found z.requires.1.0 (omega (arith, n.length.ensures)) r.roots-of.result r.roots-of.ensures c.before.before.before.before.before.before.before.enum_told.given.1 (omega (arith, c.before.before.before.before.before.if2.false)) h.halve.result h.halve.ensures.0 c.before.before.enum-told2.given.1 (not-false _ c.if5.false)), (z.requires.1.0, h.halve.ensures.1.factor))
+    let n = c in
+    let r = c in
+    let h = c in
+    (omega (arith, z.requires.0, first-shorter (terms_of s.f) s.times s.budget s.found z.requires.1.0 (omega (arith, n.length-n.ensures)) r.roots_of-roots.result r.roots_of-roots.ensures c.in_default.is (omega (arith, c.if-roots-gt0.false)) h.halve-p.result h.halve-p.ensures.0 c.in_default-po.is (not-false _ c.if-not-p.false)), (z.requires.1.0, h.halve-p.ensures.1.factor))
 
-split-enum-told-3 : (t : ℕ) → split-lts.Need-enum-told-3 (calls t) (split_at t) split.Post
+split-enum-told-3 : (t : ℕ) → split-lts.Need-enum_told-in-Refused-ao (calls t) (split_at t) split.Post
 split-enum-told-3 t c = search rules
 
-split-returns-8 : (t : ℕ) → split-lts.Need-returns-8 (calls t) (split_at t) split.Post
+split-returns-8 : (t : ℕ) → split-lts.Need-returns-in-Refused-ao (calls t) (split_at t) split.Post
 split-returns-8 t c =
-    let z = c.before.before.before.before.before.before.before.before.before.before.before.before.before.before.before in
+    let z = c in
     let s = z.args in
-    let n = c.before.before.before.before.before.before.before.before.before.before.before.before.before.before in
-    let r = c.before.before.before.before.before.before.before.before.before.before.before.before in
-    let h = c.before.before.before.before.before.before.before in
-    splits-half (terms_of s.f) s.times s.budget s.found z.requires.1.0 (omega (arith, n.length.ensures)) r.roots-of.result r.roots-of.ensures c.before.before.before.before.before.before.before.before.before.before.enum_told.given.1 (omega (arith, c.before.before.before.before.before.before.before.before.if2.false)) h.halve.result h.halve.ensures.0 c.before.before.before.before.before.enum-told2.given.1 (not-false _ c.before.before.before.if5.false) c.before.before.split2.result c.before.before.split2.ensures _ c.enum-told3.given.1
+    let n = c in
+    let r = c in
+    let h = c in
+    splits-half (terms_of s.f) s.times s.budget s.found z.requires.1.0 (omega (arith, n.length-n.ensures)) r.roots_of-roots.result r.roots_of-roots.ensures c.in_default.is (omega (arith, c.if-roots-gt0.false)) h.halve-p.result h.halve-p.ensures.0 c.in_default-po.is (not-false _ c.if-not-p.false) c.split-a.result c.split-a.ensures _ c.in-Refused-ao.is
 
-split-enum-told-4 : (t : ℕ) → split-lts.Need-enum-told-4 (calls t) (split_at t) split.Post
+split-enum-told-4 : (t : ℕ) → split-lts.Need-enum_told-in_default-ao (calls t) (split_at t) split.Post
 split-enum-told-4 t c = search rules
 
-split-split-requires-3 : (t : ℕ) → split-lts.Need-split-requires-3 (calls t) (split_at t) split.Post
+split-split-requires-3 : (t : ℕ) → split-lts.Need-split-requires-2 (calls t) (split_at t) split.Post
 split-split-requires-3 t c κs =
-    let z = c.before.before.before.before.before.before.before.before.before.before.before.before.before.before.before in
+    let z = c in
     let s = z.args in
-    let n = c.before.before.before.before.before.before.before.before.before.before.before.before.before.before in
-    let r = c.before.before.before.before.before.before.before.before.before.before.before.before in
-    let h = c.before.before.before.before.before.before.before in
-    (omega (arith, z.requires.0, second-shorter (terms_of s.f) s.times s.budget s.found z.requires.1.0 (omega (arith, n.length.ensures)) r.roots-of.result r.roots-of.ensures c.before.before.before.before.before.before.before.before.before.before.enum_told.given.1 (omega (arith, c.before.before.before.before.before.before.before.before.if2.false)) h.halve.result h.halve.ensures.0 c.before.before.before.before.before.enum-told2.given.1 (not-false _ c.before.before.before.if5.false)), (half-kept (terms_of s.f) s.times s.budget s.found z.requires.1.0 (omega (arith, n.length.ensures)) r.roots-of.result r.roots-of.ensures c.before.before.before.before.before.before.before.before.before.before.enum_told.given.1 (omega (arith, c.before.before.before.before.before.before.before.before.if2.false)) h.halve.result h.halve.ensures.0 c.before.before.before.before.before.enum-told2.given.1 (not-false _ c.before.before.before.if5.false) c.before.before.split2.result c.before.before.split2.ensures c.enum-told4.given.1, h.halve.ensures.1.quotient))
+    let n = c in
+    let r = c in
+    let h = c in
+    (omega (arith, z.requires.0, second-shorter (terms_of s.f) s.times s.budget s.found z.requires.1.0 (omega (arith, n.length-n.ensures)) r.roots_of-roots.result r.roots_of-roots.ensures c.in_default.is (omega (arith, c.if-roots-gt0.false)) h.halve-p.result h.halve-p.ensures.0 c.in_default-po.is (not-false _ c.if-not-p.false)), (half-kept (terms_of s.f) s.times s.budget s.found z.requires.1.0 (omega (arith, n.length-n.ensures)) r.roots_of-roots.result r.roots_of-roots.ensures c.in_default.is (omega (arith, c.if-roots-gt0.false)) h.halve-p.result h.halve-p.ensures.0 c.in_default-po.is (not-false _ c.if-not-p.false) c.split-a.result c.split-a.ensures c.in_default-ao.is, h.halve-p.ensures.1.quotient))
 
-split-returns-9 : (t : ℕ) → split-lts.Need-returns-9 (calls t) (split_at t) split.Post
+split-returns-9 : (t : ℕ) → split-lts.Need-returns (calls t) (split_at t) split.Post
 split-returns-9 t c =
-    let z = c.before.before.before.before.before.before.before.before.before.before.before.before.before.before.before.before in
+    let z = c in
     let s = z.args in
-    let n = c.before.before.before.before.before.before.before.before.before.before.before.before.before.before.before in
-    let r = c.before.before.before.before.before.before.before.before.before.before.before.before.before in
-    let h = c.before.before.before.before.before.before.before.before in
-    splits-both (terms_of s.f) s.times s.budget s.found z.requires.1.0 (omega (arith, n.length.ensures)) r.roots-of.result r.roots-of.ensures c.before.before.before.before.before.before.before.before.before.before.before.enum_told.given.1 (omega (arith, c.before.before.before.before.before.before.before.before.before.if2.false)) h.halve.result h.halve.ensures.0 c.before.before.before.before.before.before.enum-told2.given.1 (not-false _ c.before.before.before.before.if5.false) c.before.before.before.split2.result c.before.before.before.split2.ensures c.before.enum-told4.given.1 c.split3.result c.split3.ensures
+    let n = c in
+    let r = c in
+    let h = c in
+    splits-both (terms_of s.f) s.times s.budget s.found z.requires.1.0 (omega (arith, n.length-n.ensures)) r.roots_of-roots.result r.roots_of-roots.ensures c.in_default.is (omega (arith, c.if-roots-gt0.false)) h.halve-p.result h.halve-p.ensures.0 c.in_default-po.is (not-false _ c.if-not-p.false) c.split-a.result c.split-a.ensures c.in_default-ao.is c.split-2.result c.split-2.ensures
 
-pub +split-spec : {M : Type 1} → statement M
-+split-spec = close μ-split λ t. split-lts.spec (calls t)
+pub +split_spec : {M : Type 1} → statement M
++split_spec = close μ-split λ t. split-lts.spec (calls t)
     (split_at t)
     split.Post
     (split-length-requires t)

@@ -11,32 +11,32 @@ use Rattle.splitting.proofs.add.Tie as tie
 length-requires : tie.Need-length-requires
 length-requires c κs = tt
 
-returns : tie.Need-returns
+returns : tie.Need-returns-then-length-lt2
 returns c =
-    let z = c.before.before in
+    let z = c in
     let s = z.args in
-    z.requires.0.is ∙ sym (ap found_all (unless-none (terms_of s.p) s.times (pieces_of s.found) (omega (arith, c.before.length.ensures))))
+    z.requires.0.is ∙ sym (ap found_all (unless-none (terms_of s.p) s.times (pieces_of s.found) (omega (arith, c.length.ensures))))
 
-returns-2 : tie.Need-returns-2
+returns-2 : tie.Need-returns-then-n-ge32
 returns-2 c =
-    let n = c.before.before in
-    let s = n.before.args in
-    add-full s.found (terms_of s.p) s.times n.before.requires.0 c.if2.true ∙ sym (ap found_all (unless-some (terms_of s.p) s.times (pieces_of s.found) (omega (arith, n.length.ensures))))
+    let n = c in
+    let s = n.args in
+    add-full s.found (terms_of s.p) s.times n.requires.0 c.if-n-ge32.true ∙ sym (ap found_all (unless-some (terms_of s.p) s.times (pieces_of s.found) (omega (arith, n.length.ensures))))
 
-mul-t6 : tie.Need-overflow-mul-t6
+mul-t6 : tie.Need-offset_bounds-out-n
 mul-t6 c = search rules
 
-element-set-from-out : tie.Need-element-set-from-out
+element-set-from-out : tie.Need-bounds-out-n
 element-set-from-out c = search rules
 
-add-out : tie.Need-overflow-add-out
+add-out : tie.Need-overflow_add-out
 add-out c = search rules
 
-returns-3 : tie.Need-returns-3
+returns-3 : tie.Need-returns
 returns-3 c =
-    let n = c.before.before in
-    let s = n.before.args in
-    add_done s.found s.p s.times n.before.requires.0 n.before.requires.1 (omega (arith, c.if2.false)) ∙ sym (ap found_all (unless-some (terms_of s.p) s.times (pieces_of s.found) (omega (arith, n.length.ensures))))
+    let n = c in
+    let s = n.args in
+    add_done s.found s.p s.times n.requires.0 n.requires.1 (omega (arith, c.if-n-ge32.false)) ∙ sym (ap found_all (unless-some (terms_of s.p) s.times (pieces_of s.found) (omega (arith, n.length.ensures))))
 
 pub add_spec : {M : Type 1} → statement M
 add_spec =

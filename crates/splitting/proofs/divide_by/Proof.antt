@@ -8,56 +8,56 @@ use borrow.Author.Rules.{rules}
 use Rattle.splitting.proofs.divide_by.Statement.{statement}
 use Rattle.splitting.proofs.divide_by.Tie as tie
 
-divide-requires : tie.Need-divide-requires
+divide-requires : tie.Need-divide-d-requires
 divide-requires c κs = tt
 
-enum-known-o : tie.Need-enum-known-o
+enum-known-o : tie.Need-enum_known-o
 enum-known-o c = search rules
 
-no-pair-requires : tie.Need-no-pair-requires
+no-pair-requires : tie.Need-no_pair-requires
 no-pair-requires c κs = tt
 
-returns : tie.Need-returns
+returns : tie.Need-returns-in-Refused
 returns c =
-    let d = c.before.before.before.before in
-    let s = d.before.args in
-    (pair-over c.no-pair.result _ c.no-pair.ensures.1 ∙ paired-refused (terms_of s.f) (terms_of s.g) d.divide.result d.divide.ensures _ c.before.before.o.given.1, c.no-pair.ensures.0)
+    let d = c in
+    let s = d.args in
+    (pair-over c.no_pair.result _ c.no_pair.ensures.1 ∙ paired-refused (terms_of s.f) (terms_of s.g) d.divide-d.result d.divide-d.ensures _ c.in-Refused.is, c.no_pair.ensures.0)
 
-enum_told : tie.Need-enum-told
+enum_told : tie.Need-enum_told-1
 enum_told c = search rules
 
 length-requires : tie.Need-length-requires
 length-requires c κs = tt
 
-no-pair-requires-2 : tie.Need-no-pair-requires-2
+no-pair-requires-2 : tie.Need-no_pair-requires-then-length-gt0
 no-pair-requires-2 c κs = tt
 
-returns-2 : tie.Need-returns-2
+returns-2 : tie.Need-returns-then-length-gt0
 returns-2 c =
-    let d = c.before.before.before.before.before.before in
-    let s = d.before.args in
-    (pair-none c.no-pair2.result c.no-pair2.ensures.1 c.no-pair2.ensures.2 ∙ paired-rest (terms_of s.f) (terms_of s.g) d.divide.result d.divide.ensures c.before.before.before.before.enum_told.given.1 (omega (arith, c.before.before.length.ensures)), c.no-pair2.ensures.0)
+    let d = c in
+    let s = d.args in
+    (pair-none c.no_pair-then-length-gt0.result c.no_pair-then-length-gt0.ensures.1 c.no_pair-then-length-gt0.ensures.2 ∙ paired-rest (terms_of s.f) (terms_of s.g) d.divide-d.result d.divide-d.ensures c.in_default.is (omega (arith, c.length.ensures)), c.no_pair-then-length-gt0.ensures.0)
 
 length-requires-2 : tie.Need-length-requires-2
 length-requires-2 c κs = tt
 
-no-pair-requires-3 : tie.Need-no-pair-requires-3
+no-pair-requires-3 : tie.Need-no_pair-requires-then-length-lt2
 no-pair-requires-3 c κs = tt
 
-returns-3 : tie.Need-returns-3
+returns-3 : tie.Need-returns-then-length-lt2
 returns-3 c =
-    let d = c.before.before.before.before.before.before.before.before.before in
-    let s = d.before.args in
-    (pair-none c.no-pair3.result c.no-pair3.ensures.1 c.no-pair3.ensures.2 ∙ paired-constant (terms_of s.f) (terms_of s.g) d.divide.result d.divide.ensures c.before.before.before.before.before.before.before.enum_told.given.1 (omega (arith, c.before.before.before.before.before.length.ensures)) (omega (arith, c.before.before.length2.ensures)), c.no-pair3.ensures.0)
+    let d = c in
+    let s = d.args in
+    (pair-none c.no_pair-then-length-lt2.result c.no_pair-then-length-lt2.ensures.1 c.no_pair-then-length-lt2.ensures.2 ∙ paired-constant (terms_of s.f) (terms_of s.g) d.divide-d.result d.divide-d.ensures c.in_default.is (omega (arith, c.length.ensures)) (omega (arith, c.length-2.ensures)), c.no_pair-then-length-lt2.ensures.0)
 
-returns-4 : tie.Need-returns-4
+returns-4 : tie.Need-returns
 returns-4 c =
-    let d = c.before.before.before.before.before.before.before.before in
-    let s = d.before.args in
-    (paired-both (terms_of s.f) (terms_of s.g) d.divide.result d.divide.ensures c.before.before.before.before.before.before.enum_told.given.1 (omega (arith, c.before.before.before.before.length.ensures)) (omega (arith, c.before.length2.ensures)), record { factor = d.before.requires; quotient = record { is = quotient-poly d.divide.result (terms_of s.f) (terms_of s.g) d.divide.ensures } })
+    let d = c in
+    let s = d.args in
+    (paired-both (terms_of s.f) (terms_of s.g) d.divide-d.result d.divide-d.ensures c.in_default.is (omega (arith, c.length.ensures)) (omega (arith, c.length-2.ensures)), record { factor = d.requires; quotient = record { is = quotient-poly d.divide-d.result (terms_of s.f) (terms_of s.g) d.divide-d.ensures } })
 
-pub divide-by-spec : {M : Type 1} → statement M
-divide-by-spec =
+pub divide_by_spec : {M : Type 1} → statement M
+divide_by_spec =
     tie.close
     (tie.spec
     divide-requires

@@ -12,44 +12,44 @@ use borrow.Author.Rules.{rules}
 use Rattle.splitting.proofs.line.Statement.{statement}
 use Rattle.splitting.proofs.line.Tie as tie
 
-checked-neg-requires : tie.Need-checked-neg-requires
+checked-neg-requires : tie.Need-checked_neg-requires
 checked-neg-requires c κs = tt
 
-enum-known-n : tie.Need-enum-known-n
+enum-known-n : tie.Need-enum_known-n
 enum-known-n c = search rules
 
-enum_told : tie.Need-enum-told
+enum_told : tie.Need-enum_told-1
 enum_told c = search rules
 
 refused-requires : tie.Need-refused-requires
 refused-requires c κs = tt
 
-returns : tie.Need-returns
-returns c = c.refused.ensures ∙ sym (ap line_answer_of (sym c.before.before.before.checked-neg.ensures.0 ∙ c.before.enum_told.given.1))
+returns : tie.Need-returns-in_default
+returns c = c.refused.ensures ∙ sym (ap line_answer_of (sym c.checked_neg.ensures.0 ∙ c.in_default.is))
 
-zero-requires : tie.Need-zero-requires
+zero-requires : tie.Need-zero-p-requires
 zero-requires c κs = tt
 
-element-set-from-n : tie.Need-element-set-from-n
+element-set-from-n : tie.Need-bounds-p-0
 element-set-from-n c = search rules
 
-element-set-from-p : tie.Need-element-set-from-p
+element-set-from-p : tie.Need-bounds-p-1
 element-set-from-p c = search rules
 
 done-requires : tie.Need-done-requires
 done-requires c κs = tt
 
-returns-2 : tie.Need-returns-2
+returns-2 : tie.Need-returns
 returns-2 c =
-    let z = c.before in
-    let m = z.before.before.before.before in
-    let n : Ratio = z.before.before.n.given.0.0 in
+    let z = c in
+    let m = z in
+    let n : Ratio = z.in-Done.n in
     c.done.ensures
-    ∙ ap {B = Answer} (λ (p : Poly). done_with (record { coeffs = set (set p.coeffs 0 n) 1 (whole_r (pos 1)); len = 2 }) 0) z.zero.ensures
-    ∙ sym (ap line_answer_of (sym m.checked-neg.ensures.0 ∙ z.before.before.n.given.1))
+    ∙ ap {B = Answer} (λ (p : Poly). done_with (record { coeffs = set (set p.coeffs 0 n) 1 (whole_r (pos 1)); len = 2 }) 0) z.zero-p.ensures
+    ∙ sym (ap line_answer_of (sym m.checked_neg.ensures.0 ∙ z.in-Done.is))
 
-pub line-spec : {M : Type 1} → statement M
-line-spec =
+pub line_spec : {M : Type 1} → statement M
+line_spec =
     tie.close
     (tie.spec
     checked-neg-requires

@@ -10,7 +10,7 @@ zero-requires-2 : tie.Need-zero-requires-2
 zero-requires-2 c κs = tt
 
 returns : tie.Need-returns
-returns c = (record { factor = record { is = rw c.before.zero.ensures refl }; quotient = record { is = rw c.zero2.ensures refl } }, refl, refl)
+returns c = (record { factor = record { is = rw c.zero.ensures refl }; quotient = record { is = rw c.zero-2.ensures refl } }, refl, refl)
 
-pub no-pair-spec : {M : Type 1} → statement M
-no-pair-spec = tie.close (tie.spec zero-requires zero-requires-2 returns)
+pub no_pair_spec : {M : Type 1} → statement M
+no_pair_spec = tie.close (tie.spec zero-requires zero-requires-2 returns)

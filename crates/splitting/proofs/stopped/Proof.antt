@@ -13,7 +13,7 @@ zero-requires : tie.Need-zero-requires
 zero-requires c κs = tt
 
 returns : tie.Need-returns
-returns c = ap₂ {C = Left} (λ (d : Decomposition) (p : Poly). record { found = d; rest = p }) c.before.refused.ensures c.zero.ensures
+returns c = ap₂ {C = Left} (λ (d : Decomposition) (p : Poly). record { found = d; rest = p }) c.refused.ensures c.zero.ensures
 
-pub stopped-spec : {M : Type 1} → statement M
-stopped-spec = tie.close (tie.spec refused-requires zero-requires returns)
+pub stopped_spec : {M : Type 1} → statement M
+stopped_spec = tie.close (tie.spec refused-requires zero-requires returns)

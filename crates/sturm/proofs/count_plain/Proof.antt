@@ -5,60 +5,60 @@ use Rattle.sturm.proofs.Counts.{free-refused, chain-refused, count-done}
 use Rattle.sturm.proofs.count_plain.Statement.{statement}
 use Rattle.sturm.proofs.count_plain.Tie as tie
 
-free-part-requires : tie.Need-free-part-requires
+free-part-requires : tie.Need-free_part-f-requires
 free-part-requires c κs = tt
 
-enum-known-o : tie.Need-enum-known-o
-enum-known-o c = c.match.keys1
+enum-known-o : tie.Need-enum_known-o
+enum-known-o c = c.in-Refused-1.keys1
 
-no-count-requires : tie.Need-no-count-requires
+no-count-requires : tie.Need-no_count-requires
 no-count-requires c κs = tt
 
-returns : tie.Need-returns
+returns : tie.Need-returns-in-Refused
 returns c =
-    let o = c.before.before in
-    let f = o.before.before in
-    let s = f.before.args in
-    c.no-count.ensures ∙ free-refused (terms_of s.p) s.lo s.hi f.free_part.result f.free_part.ensures _ o.o.given.1
+    let o = c in
+    let f = o in
+    let s = f.args in
+    c.no_count.ensures ∙ free-refused (terms_of s.p) s.lo s.hi f.free_part-f.result f.free_part-f.ensures _ o.in-Refused.is
 
-enum_told : tie.Need-enum-told
-enum_told c = c.match.keys2
+enum_told : tie.Need-enum_told-1
+enum_told c = c.in_default-1.keys2
 
-sequence-requires : tie.Need-sequence-requires
+sequence-requires : tie.Need-sequence-c-requires
 sequence-requires c κs = tt
 
-enum-known-oc : tie.Need-enum-known-oc
-enum-known-oc c = c.match2.keys1
+enum-known-oc : tie.Need-enum_known-oc
+enum-known-oc c = c.in-Refused-oc-1.keys1
 
-no-count-requires-2 : tie.Need-no-count-requires-2
+no-count-requires-2 : tie.Need-no_count-requires-in-Refused-oc
 no-count-requires-2 c κs = tt
 
-returns-2 : tie.Need-returns-2
+returns-2 : tie.Need-returns-in-Refused-oc
 returns-2 c =
-    let o = c.before.before in
-    let q = o.before.before in
-    let t = q.before.before in
-    let f = t.before.before in
-    let s = f.before.args in
-    c.no-count2.ensures ∙ chain-refused (terms_of s.p) s.lo s.hi f.free_part.result f.free_part.ensures t.enum_told.given.1 q.sequence.result q.sequence.ensures _ o.oc.given.1
+    let o = c in
+    let q = o in
+    let t = q in
+    let f = t in
+    let s = f.args in
+    c.no_count-in-Refused-oc.ensures ∙ chain-refused (terms_of s.p) s.lo s.hi f.free_part-f.result f.free_part-f.ensures t.in_default.is q.sequence-c.result q.sequence-c.ensures _ o.in-Refused-oc.is
 
-enum-told-2 : tie.Need-enum-told-2
-enum-told-2 c = c.match2.keys2
+enum-told-2 : tie.Need-enum_told-in_default-oc
+enum-told-2 c = c.in_default-oc-1.keys2
 
 lost-requires : tie.Need-lost-requires
 lost-requires c κs = tt
 
-returns-3 : tie.Need-returns-3
+returns-3 : tie.Need-returns
 returns-3 c =
-    let u = c.before in
-    let q = u.before.before in
-    let t = q.before.before in
-    let f = t.before.before in
-    let s = f.before.args in
-    count-done (terms_of s.p) s.lo s.hi f.free_part.result f.free_part.ensures t.enum_told.given.1 q.sequence.result q.sequence.ensures u.enum-told2.given.1 c.lost.result c.lost.ensures
+    let u = c in
+    let q = u in
+    let t = q in
+    let f = t in
+    let s = f.args in
+    count-done (terms_of s.p) s.lo s.hi f.free_part-f.result f.free_part-f.ensures t.in_default.is q.sequence-c.result q.sequence-c.ensures u.in_default-oc.is c.lost.result c.lost.ensures
 
-pub count-plain-spec : {M : Type 1} → statement M
-count-plain-spec =
+pub count_plain_spec : {M : Type 1} → statement M
+count_plain_spec =
     tie.close
     (tie.spec
     free-part-requires

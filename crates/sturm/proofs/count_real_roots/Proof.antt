@@ -13,40 +13,40 @@ ends-requires c κs = tt
 door-requires : tie.Need-door-requires
 door-requires c κs = tt
 
-both-requires : tie.Need-both-requires
+both-requires : tie.Need-both-d-requires
 both-requires c κs = tt
 
-enum_told : tie.Need-enum-told
-enum_told c = c.match.keys1
+enum_told : tie.Need-enum_told-1
+enum_told c = c.in-Open-1.keys1
 
-count-plain-requires : tie.Need-count-plain-requires
+count-plain-requires : tie.Need-count_plain-requires
 count-plain-requires c κs = tt
 
 reason-requires : tie.Need-reason-requires
 reason-requires c κs = tt
 
-no-count-requires : tie.Need-no-count-requires
+no-count-requires : tie.Need-no_count-requires
 no-count-requires c κs = tt
 
-gate : (c : tie.After-both) → c.both.result ≡ both (ends_of c.before.before.before.args.lo c.before.before.before.args.hi) (door_of c.before.before.before.args.p)
-gate c = c.both.ensures ∙ ap₂ both c.before.before.ends.ensures c.before.door.ensures
+gate : (c : tie.After-both-d) → c.both-d.result ≡ both (ends_of c.args.lo c.args.hi) (door_of c.args.p)
+gate c = c.both-d.ensures ∙ ap₂ both c.ends.ensures c.door.ensures
 
-returns : tie.Need-returns
+returns : tie.Need-returns-in-Open
 returns c =
-    let g = c.before.before.before in
-    let s = g.before.before.before.args in
-    count-both s.p s.lo s.hi c.count-plain.result (open-entered g.both.result _ (gate g) c.before.enum_told.given.1 no_count _ c.count-plain.result c.count-plain.ensures)
+    let g = c in
+    let s = g.args in
+    count-both s.p s.lo s.hi c.count_plain.result (open-entered g.both-d.result _ (gate g.before.before) c.in-Open.is no_count _ c.count_plain.result c.count_plain.ensures)
 
-returns-2 : tie.Need-returns-2
+returns-2 : tie.Need-returns-in_default
 returns-2 c =
-    let w = c.before in
-    let g = w.before.before in
-    let s = g.before.before.before.args in
-    count-both s.p s.lo s.hi c.no-count.result
-    (shut-entered g.both.result _ (gate g) w.before.match.keys2 w.reason.result w.reason.ensures no_count _ c.no-count.result c.no-count.ensures)
+    let w = c in
+    let g = w in
+    let s = g.args in
+    count-both s.p s.lo s.hi c.no_count.result
+    (shut-entered g.both-d.result _ (gate g.before.before.before) w.in_default.in_default-own.keys2 w.reason.result w.reason.ensures no_count _ c.no_count.result c.no_count.ensures)
 
-pub count-real-roots-spec : {M : Type 1} → statement M
-count-real-roots-spec =
+pub count_real_roots_spec : {M : Type 1} → statement M
+count_real_roots_spec =
     tie.close
     (tie.spec
     ends-requires

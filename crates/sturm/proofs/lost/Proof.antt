@@ -13,34 +13,34 @@ use Rattle.sturm.proofs.Laid.{rows_fit, rows-lent}
 use Rattle.sturm.proofs.lost.Statement.{statement}
 use Rattle.sturm.proofs.lost.Tie as tie
 
-chain-floats-requires : tie.Need-chain-floats-requires
+chain-floats-requires : tie.Need-chain_floats-t-requires
 chain-floats-requires c κs = tt
 
-fit : (c : tie.After-chain-floats) → c.chain-floats.result.len ≤ length c.chain-floats.result.sizes
-fit c = rows_fit c.chain-floats.result (rows_of (entries_of c.before.args.c)) c.chain-floats.ensures
+fit : (c : tie.After-chain_floats-t) → c.chain_floats-t.result.len ≤ length c.chain_floats-t.result.sizes
+fit c = rows_fit c.chain_floats-t.result (rows_of (entries_of c.args.c)) c.chain_floats-t.ensures
 
-slice-aggregate-sign-changes : tie.Need-slice-aggregate-sign-changes
+slice-aggregate-sign-changes : tie.Need-slice_bounds-sign_changes-end
 slice-aggregate-sign-changes c = search rules
 
-array-share-prefix-sizes : tie.Need-array-share-prefix-sizes
+array-share-prefix-sizes : tie.Need-slice_bounds-sizes-end
 array-share-prefix-sizes c = fit c.before.before.before
 
-slice-aggregate-sign-changes-2 : tie.Need-slice-aggregate-sign-changes-2
-slice-aggregate-sign-changes-2 c = let t = c.before.before.before.before in sym (length-take-le _ t.chain-floats.result.sizes (fit t))
+slice-aggregate-sign-changes-2 : tie.Need-slice_bounds-sign_changes-end-2
+slice-aggregate-sign-changes-2 c = let t = c in sym (length-take-le _ t.chain_floats-t.result.sizes (fit t.before.before.before.before))
 
-sign-changes-requires : tie.Need-sign-changes-requires
+sign-changes-requires : tie.Need-sign_changes-va-requires
 sign-changes-requires c κs = tt
 
-slice-aggregate-sign-changes-3 : tie.Need-slice-aggregate-sign-changes-3
+slice-aggregate-sign-changes-3 : tie.Need-slice_bounds-sign_changes-end-3
 slice-aggregate-sign-changes-3 c = search rules
 
-array-share-prefix-sizes-2 : tie.Need-array-share-prefix-sizes-2
+array-share-prefix-sizes-2 : tie.Need-slice_bounds-sizes-end-2
 array-share-prefix-sizes-2 c = fit c.before.before.before.before.before.before
 
-slice-aggregate-sign-changes-4 : tie.Need-slice-aggregate-sign-changes-4
-slice-aggregate-sign-changes-4 c = let t = c.before.before.before.before.before.before.before in sym (length-take-le _ t.chain-floats.result.sizes (fit t))
+slice-aggregate-sign-changes-4 : tie.Need-slice_bounds-sign_changes-end-4
+slice-aggregate-sign-changes-4 c = let t = c in sym (length-take-le _ t.chain_floats-t.result.sizes (fit t.before.before.before.before.before.before.before))
 
-sign-changes-requires-2 : tie.Need-sign-changes-requires-2
+sign-changes-requires-2 : tie.Need-sign_changes-vb-requires
 sign-changes-requires-2 c κs = tt
 
 less-requires : tie.Need-less-requires
@@ -48,18 +48,18 @@ less-requires c κs = tt
 
 returns : tie.Need-returns
 returns c =
-    let b = c.before in
-    let a = b.before.before.before in
-    let t = a.before.before.before.before.before in
-    let s = t.before.args in
-    let rows = rows-lent t.chain-floats.result (rows_of (entries_of s.c)) t.chain-floats.ensures in
+    let b = c in
+    let a = b in
+    let t = a in
+    let s = t.args in
+    let rows = rows-lent t.chain_floats-t.result (rows_of (entries_of s.c)) t.chain_floats-t.ensures in
     c.less.ensures
     ∙ ap₂ (λ (x y : ℕ). x - y)
-    (a.sign-changes.ensures ∙ ap (λ (r : List (List Float)). changes (signs_at r s.lo)) rows)
-    (b.sign-changes2.ensures ∙ ap (λ (r : List (List Float)). changes (signs_at r s.hi)) rows)
+    (a.sign_changes-va.ensures ∙ ap (λ (r : List (List Float)). changes (signs_at r s.lo)) rows)
+    (b.sign_changes-vb.ensures ∙ ap (λ (r : List (List Float)). changes (signs_at r s.hi)) rows)
 
-pub lost-spec : {M : Type 1} → statement M
-lost-spec =
+pub lost_spec : {M : Type 1} → statement M
+lost_spec =
     tie.close
     (tie.spec
     chain-floats-requires
