@@ -6,29 +6,29 @@ use Rattle.roots.proofs.Contents.{content-both}
 use Rattle.roots.proofs.content.Statement.{statement}
 use Rattle.roots.proofs.content.Tie as tie
 
-door-requires : tie.Need-door-requires
+door-requires : tie.Need-door-d-requires
 door-requires c κs = tt
 
-enum_told : tie.Need-enum-told
-enum_told c = c.match.keys1
+enum_told : tie.Need-enum_told-1
+enum_told c = c.in-Open-1.keys1
 
-content-terms-requires : tie.Need-content-terms-requires
-content-terms-requires c κs = let g = c.before.before in sym g.door.ensures ∙ c.enum_told.given.1
+content-terms-requires : tie.Need-content_terms-requires
+content-terms-requires c κs = let g = c in sym g.door-d.ensures ∙ c.in-Open.is
 
 reason-requires : tie.Need-reason-requires
 reason-requires c κs = tt
 
-returns : tie.Need-returns
+returns : tie.Need-returns-in-Open
 returns c =
-    let g = c.before.before.before in
-    content-both g.before.args.p _ (open_step g.door.result _ g.door.ensures c.before.enum_told.given.1 _ (Done c.content-terms.result) (ap Done c.content-terms.ensures))
+    let g = c in
+    content-both g.args.p _ (open_step g.door-d.result _ g.door-d.ensures c.in-Open.is _ (Done c.content_terms.result) (ap Done c.content_terms.ensures))
 
-returns-2 : tie.Need-returns-2
+returns-2 : tie.Need-returns-in_default
 returns-2 c =
-    let g = c.before.before in
-    content-both g.before.args.p _ (shut-step g.door.result _ g.door.ensures c.before.match.keys2 c.reason.result c.reason.ensures _)
+    let g = c in
+    content-both g.args.p _ (shut-step g.door-d.result _ g.door-d.ensures c.in_default.in_default-own.keys2 c.reason.result c.reason.ensures _)
 
-pub content-spec : {M : Type 1} → statement M
-content-spec =
+pub content_spec : {M : Type 1} → statement M
+content_spec =
     tie.close
     (tie.spec door-requires enum_told content-terms-requires reason-requires returns returns-2)

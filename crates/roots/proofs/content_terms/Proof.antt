@@ -20,91 +20,91 @@ use borrow.Author.Rules.{rules}
 use Rattle.roots.proofs.content_terms.Statement.{statement}
 use Rattle.roots.proofs.content_terms.Tie as tie
 
-abbrev invariant-loop : tie.invariant-loop
+abbrev invariant-loop : tie.invariant-loop-i
 invariant-loop p n num₀ den₀ i₀ num den i = (n ≤ 32) × (n ≡ length (terms_of p)) × AllLowest (terms_of p) × Gathering (terms_of p) i num den
 
-abbrev decreases-loop : tie.decreases-loop
+abbrev decreases-loop : tie.decreases-loop-i
 decreases-loop p n num₀ den₀ i₀ num den i = n - i
 
-length-requires : tie.Need-length-requires invariant-loop decreases-loop
+length-requires : tie.Need-length-n-requires invariant-loop decreases-loop
 length-requires c κs = tt
 
-loop-holds : tie.Need-loop-init invariant-loop decreases-loop
+loop-holds : tie.Need-loop-i-init invariant-loop decreases-loop
 loop-holds c =
-    let s = c.before.args in
-    let o = opened s.t1 c.before.requires in
-    (omega (arith, c.length.ensures, o.few), c.length.ensures, o.canonical.lowest, gathering-none (terms_of s.t1))
+    let s = c.args in
+    let o = opened s.p c.requires in
+    (omega (arith, c.length-n.ensures, o.few), c.length-n.ensures, o.canonical.lowest, gathering-none (terms_of s.p))
 
-mul-c : tie.Need-overflow-mul-c invariant-loop decreases-loop
+mul-c : tie.Need-offset_bounds-p-i invariant-loop decreases-loop
 mul-c c = omega arith
 
-element-copy-out-c : tie.Need-element-copy-out-c invariant-loop decreases-loop
+element-copy-out-c : tie.Need-bounds-p-i invariant-loop decreases-loop
 element-copy-out-c c = omega arith
 
-cast-gcd-i64 : tie.Need-overflow-cast-gcd-i64 invariant-loop decreases-loop
-cast-gcd-i64 c = let l = c.before.before in fits (pos l.loop.num) l.loop.invariant.3.within
+cast-gcd-i64 : tie.Need-overflow_cast-num invariant-loop decreases-loop
+cast-gcd-i64 c = let l = c in fits (pos l.loop-i.num) l.loop-i.invariant.3.within
 
-gcd-i64-requires : tie.Need-gcd-i64-requires invariant-loop decreases-loop
+gcd-i64-requires : tie.Need-gcd_i64-num-requires invariant-loop decreases-loop
 gcd-i64-requires c κs = tt
 
-denominator-requires : tie.Need-denominator-requires invariant-loop decreases-loop
+denominator-requires : tie.Need-denominator-den-requires invariant-loop decreases-loop
 denominator-requires c κs = tt
 
-add-i : tie.Need-overflow-add-i invariant-loop decreases-loop
+add-i : tie.Need-overflow_add-i invariant-loop decreases-loop
 add-i c = omega arith
 
-loop-less : tie.Need-loop-smaller invariant-loop decreases-loop
+loop-less : tie.Need-loop-i-smaller invariant-loop decreases-loop
 loop-less c = omega arith
 
-loop-again : tie.Need-loop-preserved invariant-loop decreases-loop
+loop-again : tie.Need-loop-i-preserved invariant-loop decreases-loop
 loop-again c =
-    let g = c.before.before in
-    let l = g.before.before.before.before in
-    let s = l.before.before.args.t1 in
-    let r : Ratio = get_or s.coeffs l.loop.i past in
-    let e : r ≡ get_or (terms_of s) l.loop.i zero_r = read-terms s.len s.coeffs l.loop.i past zero_r (omega arith) in (
-      l.loop.invariant.0,
-      l.loop.invariant.1,
-      l.loop.invariant.2,
-      gathering-more (terms_of s) l.loop.i l.loop.num l.loop.den (omega arith) (l.loop.invariant.2 l.loop.i).fraction.num-within l.loop.invariant.3 _ _
-          (g.gcd-i64.ensures.0 ∙ ap₂ (λ (x y : ℤ). gcd_of (nat_abs x) (nat_abs y)) (size_back l.loop.num l.loop.invariant.3.within) (to_z-of_z {z = r.num} (record { sfits = g.before.struct_told.given.0.1 }) ∙ ap (λ (x : Ratio). x.num) e))
-          (c.denominator.ensures ∙ ap (denominator_of l.loop.den) (to_z-of_z {z = r.den} (record { sfits = c.before.struct-told2.given.1.0.1 }) ∙ ap (λ (x : Ratio). x.den) e)),
+    let g = c in
+    let l = g in
+    let s = l.args.p in
+    let r : Ratio = get_or s.coeffs l.loop-i.i past in
+    let e : r ≡ get_or (terms_of s) l.loop-i.i zero_r = read-terms s.len s.coeffs l.loop-i.i past zero_r (omega arith) in (
+      l.loop-i.invariant.0,
+      l.loop-i.invariant.1,
+      l.loop-i.invariant.2,
+      gathering-more (terms_of s) l.loop-i.i l.loop-i.num l.loop-i.den (omega arith) (l.loop-i.invariant.2 l.loop-i.i).fraction.num-within l.loop-i.invariant.3 _ _
+          (g.gcd_i64-num.ensures.0 ∙ ap₂ (λ (x y : ℤ). gcd_of (nat_abs x) (nat_abs y)) (size_back l.loop-i.num l.loop-i.invariant.3.within) (to_z-of_z {w = Rattle.std.proofs.Common.w64} {z = r.num} (record { sfits = g.struct_told-1.given.0.1 }) ∙ ap (λ (x : Ratio). x.num) e))
+          (c.denominator-den.ensures ∙ ap (denominator_of l.loop-i.den) (to_z-of_z {w = Rattle.std.proofs.Common.w64} {z = r.den} (record { sfits = c.struct_told-in-loop-i-1.given.1.0.1 }) ∙ ap (λ (x : Ratio). x.den) e)),
     )
 
-cast-new : tie.Need-overflow-cast-new invariant-loop decreases-loop
-cast-new c = let l = c.before in fits (pos l.loop.num) l.loop.invariant.3.within
+cast-new : tie.Need-overflow_cast-num-2 invariant-loop decreases-loop
+cast-new c = let l = c in fits (pos l.loop-i.num) l.loop-i.invariant.3.within
 
 new-requires : tie.Need-new-requires invariant-loop decreases-loop
 new-requires c κs = tt
 
-enum-known-r : tie.Need-enum-known-r invariant-loop decreases-loop
+enum-known-r : tie.Need-enum_known-r invariant-loop decreases-loop
 enum-known-r c = search rules
 
-enum_told : tie.Need-enum-told invariant-loop decreases-loop
+enum_told : tie.Need-enum_told-1 invariant-loop decreases-loop
 enum_told c = search rules
 
 -- the fraction of the two
-made : (c : tie.After-new invariant-loop decreases-loop) → new_of (pos c.before.before.before.loop.num) c.before.before.before.loop.den.num ≡ c.new.result
+made : (c : tie.After-new invariant-loop decreases-loop) → new_of (pos c.loop-i.num) c.loop-i.den.num ≡ c.new.result
 made c =
-    let l = c.before.before.before in
-    sym (c.new.ensures.0 ∙ ap₂ new_of (size_back l.loop.num l.loop.invariant.3.within) (to_z-of_z {z = l.loop.den.num} (record { sfits = c.before.struct-told3.given.0.1 })))
+    let l = c in
+    sym (c.new.ensures.0 ∙ ap₂ new_of (size_back l.loop-i.num l.loop-i.invariant.3.within) (to_z-of_z {w = Rattle.std.proofs.Common.w64} {z = l.loop-i.den.num} (record { sfits = c.struct_told-2-1.given.0.1 })))
 
-returns : tie.Need-returns invariant-loop decreases-loop
+returns : tie.Need-returns-in_default invariant-loop decreases-loop
 returns c =
-    let m = c.before.before in
-    let l = m.before.before.before in
-    let s = l.before.before.args.t1 in
-    sym (ap ratio_of (made m ∙ c.enum_told.given.1)) ∙ gathering-all (terms_of s) l.loop.i l.loop.num l.loop.den (omega arith) l.loop.invariant.3
+    let m = c in
+    let l = m in
+    let s = l.args.p in
+    sym (ap ratio_of (made m.before ∙ c.in_default.is)) ∙ gathering-all (terms_of s) l.loop-i.i l.loop-i.num l.loop-i.den (omega arith) l.loop-i.invariant.3
 
-returns-2 : tie.Need-returns-2 invariant-loop decreases-loop
+returns-2 : tie.Need-returns invariant-loop decreases-loop
 returns-2 c =
-    let m = c.before.before.before in
-    let l = m.before.before.before in
-    let s = l.before.before.args.t1 in
-    sym (ap ratio_of (made m ∙ c.before.r.given.1)) ∙ gathering-all (terms_of s) l.loop.i l.loop.num l.loop.den (omega arith) l.loop.invariant.3
+    let m = c in
+    let l = m in
+    let s = l.args.p in
+    sym (ap ratio_of (made m.before ∙ c.in-Done.is)) ∙ gathering-all (terms_of s) l.loop-i.i l.loop-i.num l.loop-i.den (omega arith) l.loop-i.invariant.3
 
-pub content-terms-spec : {M : Type 1} → statement M
-content-terms-spec =
+pub content_terms_spec : {M : Type 1} → statement M
+content_terms_spec =
     tie.close
     (tie.spec
     invariant-loop

@@ -11,24 +11,24 @@ use Rattle.roots.proofs.denominator.Tie as tie
 widen-requires : tie.Need-widen-requires
 widen-requires c κs = tt
 
-enum-known-m : tie.Need-enum-known-m
+enum-known-m : tie.Need-enum_known-m
 enum-known-m c = search rules
 
-enum_told : tie.Need-enum-told
+enum_told : tie.Need-enum_told-1
 enum_told c = search rules
 
-step : (c : tie.After-widen) → widened c.before.args.d c.before.args.e ≡ c.widen.result
-step c = sym (c.widen.ensures ∙ ap (widened c.before.args.d) (to_z-of_z {z = c.before.args.e} c.before.ranges.e))
+step : (c : tie.After-widen) → widened c.args.d c.args.e ≡ c.widen.result
+step c = sym (c.widen.ensures ∙ ap (widened c.args.d) (to_z-of_z {w = Rattle.std.proofs.Common.w64} {z = c.args.e} c.ranges.e))
 
-returns : tie.Need-returns
+returns : tie.Need-returns-in-Done
 returns c =
-    let m = c.before.before.before in
-    sym (ap (λ (t : Step). or_stay t m.before.args.d) (step m ∙ c.before.m.given.1))
+    let m = c in
+    sym (ap (λ (t : Step). or_stay t m.args.d) (step m.before ∙ c.in-Done.is))
 
-returns-2 : tie.Need-returns-2
+returns-2 : tie.Need-returns-in-Refused
 returns-2 c =
-    let m = c.before.before in
-    sym (ap (λ (t : Step). or_stay t m.before.args.d) (step m ∙ c.enum_told.given.1))
+    let m = c in
+    sym (ap (λ (t : Step). or_stay t m.args.d) (step m.before ∙ c.in-Refused.is))
 
-pub denominator-spec : {M : Type 1} → statement M
-denominator-spec = tie.close (tie.spec widen-requires enum-known-m enum_told returns returns-2)
+pub denominator_spec : {M : Type 1} → statement M
+denominator_spec = tie.close (tie.spec widen-requires enum-known-m enum_told returns returns-2)

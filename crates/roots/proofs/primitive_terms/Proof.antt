@@ -7,29 +7,29 @@ use borrow.Author.Rules.{rules}
 use Rattle.roots.proofs.primitive_terms.Statement.{statement}
 use Rattle.roots.proofs.primitive_terms.Tie as tie
 
-content-terms-requires : tie.Need-content-terms-requires
+content-terms-requires : tie.Need-content_terms-requires
 content-terms-requires c κs = c.requires
 
 inverse-requires : tie.Need-inverse-requires
 inverse-requires c κs = tt
 
-enum-known-c : tie.Need-enum-known-c
+enum-known-c : tie.Need-enum_known-c
 enum-known-c c = search rules
 
-enum_told : tie.Need-enum-told
+enum_told : tie.Need-enum_told-1
 enum_told c = search rules
 
 done-requires : tie.Need-done-requires
 done-requires c κs = tt
 
 -- the inverse of the content
-inverse : (c : tie.After-inverse) → inv_of (content_of (terms_of c.before.before.args.p)) ≡ c.inverse.result
-inverse c = sym (c.inverse.ensures.0 ∙ ap inv_of c.before.content-terms.ensures)
+inverse : (c : tie.After-inverse) → inv_of (content_of (terms_of c.args.p)) ≡ c.inverse.result
+inverse c = sym (c.inverse.ensures.0 ∙ ap inv_of c.content_terms.ensures)
 
-returns : tie.Need-returns
+returns : tie.Need-returns-in_default
 returns c =
-    let m = c.before.before.before in
-    c.done.ensures ∙ sym (ap (over_content m.before.before.args.p) (inverse m ∙ c.before.enum_told.given.1))
+    let m = c in
+    c.done.ensures ∙ sym (ap (over_content m.args.p) (inverse m.before.before ∙ c.in_default.is))
 
 scale-requires : tie.Need-scale-requires
 scale-requires c κs = tt
@@ -37,14 +37,14 @@ scale-requires c κs = tt
 turned-requires : tie.Need-turned-requires
 turned-requires c κs = tt
 
-returns-2 : tie.Need-returns-2
+returns-2 : tie.Need-returns
 returns-2 c =
-    let s = c.before in
-    let m = s.before.before.before.before in
-    c.turned.ensures ∙ ap upright s.scale.ensures ∙ sym (ap (over_content m.before.before.args.p) (inverse m ∙ s.before.before.c.given.1))
+    let s = c in
+    let m = s in
+    c.turned.ensures ∙ ap upright s.scale.ensures ∙ sym (ap (over_content m.args.p) (inverse m.before.before.before ∙ s.in-Done.is))
 
-pub primitive-terms-spec : {M : Type 1} → statement M
-primitive-terms-spec =
+pub primitive_terms_spec : {M : Type 1} → statement M
+primitive_terms_spec =
     tie.close
     (tie.spec
     content-terms-requires

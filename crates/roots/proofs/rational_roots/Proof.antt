@@ -11,44 +11,44 @@ use Rattle.roots.proofs.rational_roots.Tie as tie
 door-requires : tie.Need-door-requires
 door-requires c κs = tt
 
-door-of-budget-requires : tie.Need-door-of-budget-requires
+door-of-budget-requires : tie.Need-door_of_budget-requires
 door-of-budget-requires c κs = tt
 
-both-requires : tie.Need-both-requires
+both-requires : tie.Need-both-d-requires
 both-requires c κs = tt
 
-enum_told : tie.Need-enum-told
-enum_told c = c.match.keys1
+enum_told : tie.Need-enum_told-1
+enum_told c = c.in-Open-1.keys1
 
-roots-of-requires : tie.Need-roots-of-requires
+roots-of-requires : tie.Need-roots_of-requires
 roots-of-requires c κs = tt
 
 reason-requires : tie.Need-reason-requires
 reason-requires c κs = tt
 
-no-roots-requires : tie.Need-no-roots-requires
+no-roots-requires : tie.Need-no_roots-requires
 no-roots-requires c κs = tt
 
-gate : (c : tie.After-both) → c.both.result ≡ both (door_of c.before.before.before.args.p) (budget_oroor c.before.before.before.args.budget)
-gate c = c.both.ensures ∙ ap₂ both c.before.before.door.ensures c.before.door-of-budget.ensures
+gate : (c : tie.After-both-d) → c.both-d.result ≡ both (door_of c.args.p) (budget_oroor c.args.budget)
+gate c = c.both-d.ensures ∙ ap₂ both c.door.ensures c.door_of_budget.ensures
 
-returns : tie.Need-returns
+returns : tie.Need-returns-in-Open
 returns c =
-    let g = c.before.before.before in
-    let s = g.before.before.before.args in
-    roots-both s.p s.budget c.roots-of.result
-    (open-entered g.both.result _ (gate g) c.before.enum_told.given.1 (λ why. no_roots why 0 0) _ c.roots-of.result c.roots-of.ensures)
+    let g = c in
+    let s = g.args in
+    roots-both s.p s.budget c.roots_of.result
+    (open-entered g.both-d.result _ (gate g.before.before) c.in-Open.is (λ why. no_roots why 0 0) _ c.roots_of.result c.roots_of.ensures)
 
-returns-2 : tie.Need-returns-2
+returns-2 : tie.Need-returns-in_default
 returns-2 c =
-    let w = c.before in
-    let g = w.before.before in
-    let s = g.before.before.before.args in
-    roots-both s.p s.budget c.no-roots.result
-    (shut-entered g.both.result _ (gate g) w.before.match.keys2 w.reason.result w.reason.ensures (λ why. no_roots why 0 0) _ c.no-roots.result c.no-roots.ensures)
+    let w = c in
+    let g = w in
+    let s = g.args in
+    roots-both s.p s.budget c.no_roots.result
+    (shut-entered g.both-d.result _ (gate g.before.before.before) w.in_default.in_default-own.keys2 w.reason.result w.reason.ensures (λ why. no_roots why 0 0) _ c.no_roots.result c.no_roots.ensures)
 
-pub rational-roots-spec : {M : Type 1} → statement M
-rational-roots-spec =
+pub rational_roots_spec : {M : Type 1} → statement M
+rational_roots_spec =
     tie.close
     (tie.spec
     door-requires

@@ -5,23 +5,23 @@ use Rattle.roots.specs.Content.{counting, turn_if}
 use Rattle.roots.proofs.turned.Statement.{statement}
 use Rattle.roots.proofs.turned.Tie as tie
 
-is-below-requires : tie.Need-is-below-requires
+is-below-requires : tie.Need-is_below-requires
 is-below-requires c κs = tt
 
-negate-requires : tie.Need-negate-requires
+negate-requires : tie.Need-negate-t-requires
 negate-requires c κs = tt
 
-returns : tie.Need-returns
+returns : tie.Need-returns-then-is_below
 returns c =
-    let n = c.before in
-    let t = n.before in
-    let a = t.before.before.before.args.a in
-    ap (counting a.steps) n.negate.ensures ∙ ap (λ (b : Bool). turn_if b a) (sym (sym t.before.is_below.ensures ∙ t.if1.true))
+    let n = c in
+    let t = n in
+    let a = t.args.a in
+    ap (counting a.steps) n.negate-t.ensures ∙ ap (λ (b : Bool). turn_if b a) (sym (sym t.is_below.ensures ∙ t.if-is_below.true))
 
-returns-2 : tie.Need-returns-2
+returns-2 : tie.Need-returns-else-is_below
 returns-2 c =
-    let a = c.before.before.before.args.a in
-    ap (λ (b : Bool). turn_if b a) (sym (sym c.before.is_below.ensures ∙ c.if1.false))
+    let a = c.args.a in
+    ap (λ (b : Bool). turn_if b a) (sym (sym c.is_below.ensures ∙ c.if-is_below.false))
 
-pub turned-spec : {M : Type 1} → statement M
-turned-spec = tie.close (tie.spec is-below-requires negate-requires returns returns-2)
+pub turned_spec : {M : Type 1} → statement M
+turned_spec = tie.close (tie.spec is-below-requires negate-requires returns returns-2)
