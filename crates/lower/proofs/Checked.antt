@@ -23,6 +23,7 @@ use Rattle.lower.specs.declared.Whole.{Whole}
 use Rattle.lower.specs.declared.Whole.TheVariants as W
 use Rattle.lower.specs.declared.Binary.{Binary}
 use Rattle.lower.specs.declared.Unary.{Unary}
+use Rattle.lower.specs.declared.Binary.TheVariants as B
 use Rattle.lower.specs.declared.Unary.TheVariants as U
 use Rattle.lower.specs.Exponent.{exponent_of}
 use Rattle.lower.specs.Stack.{Left, fine, stopped, one, two, raised, applied}
@@ -62,9 +63,9 @@ record Good (t : Token) (l : List Poly) : Type 0 where
 good : (wrt : ℕ) (t : Token) (l m : List Poly) → bounded (applied wrt t l) ≡ fine m → Good t l
 good wrt (T.Const x) l m e = record { spelled = refl; plain = refl; enough = omega arith }
 good wrt (T.Var i) l m e = record { spelled = refl; plain = refl; enough = omega arith }
-good wrt T.Add l m e = record { spelled = refl; plain = refl; enough = two-enough _ l m e }
-good wrt T.Sub l m e = record { spelled = refl; plain = refl; enough = two-enough _ l m e }
-good wrt T.Mul l m e = record { spelled = refl; plain = refl; enough = two-enough _ l m e }
+good wrt T.Add l m e = record { spelled = refl; plain = refl; enough = two-enough B.Add l m e }
+good wrt T.Sub l m e = record { spelled = refl; plain = refl; enough = two-enough B.Sub l m e }
+good wrt T.Mul l m e = record { spelled = refl; plain = refl; enough = two-enough B.Mul l m e }
 good wrt T.Neg l m e = record { spelled = refl; plain = refl; enough = one-enough U.Neg l m e }
 good wrt (T.Pow x) l m e = record { spelled = refl; plain = refl; enough = raised-enough (exponent_of x) l m e }
 good wrt T.Other l m e = let z : ◌≡◌ {A = ℕ} 0 1 = cc in absurd (omega arith)

@@ -192,12 +192,21 @@ check-all s = check-few (length s) 0 bare (words_of s)
 
 few-numbers : (o : Outcome) (why : Reason) → Few o → o ≡ O.Refused why → (number_of why ≡ 5 → ⊥) → (number_of why ≡ 4 → ⊥) → ⊥
 few-numbers O.Done why f e b l = let z : ◌≡◌ {A = ℕ} 0 1 = cc in omega arith
+few-numbers (O.Refused R.NotPolynomial) why f e b l = elim f [ ]
+few-numbers (O.Refused R.CoeffOverflow) why f e b l = elim f [ ]
+few-numbers (O.Refused R.DivByZero) why f e b l = elim f [ ]
+few-numbers (O.Refused R.BadInput) why f e b l = elim f [ ]
+few-numbers (O.Refused R.Budget) why f e b l = elim f [ ]
+few-numbers (O.Refused R.TooDeep) why f e b l = elim f [ ]
+few-numbers (O.Refused R.NoRoom) why f e b l = elim f [ ]
 few-numbers (O.Refused R.TooLong) why f e b l = let z : R.TooLong ≡ why = cc in l (ap number_of (sym z))
 few-numbers (O.Refused (R.Malformed at)) why f e b l = let z : R.Malformed at ≡ why = cc in b (ap number_of (sym z))
 
 -- ---- the whole text
 
 number-kept : (ws : List (List ℕ)) (wrt : ℕ) (r : Left) → Ends wrt ws r → Comes wrt ws (outcome_status (answered r).outcome)
+number-kept ws wrt (fine []) h = elim h [ ]
+number-kept ws wrt (fine (p ∷ (q ∷ l))) h = elim h [ ]
 number-kept ws wrt (fine (p ∷ [])) (one_value a) = through a refl
 number-kept ws wrt (stopped why) (halted s) = P.stopped why s refl
 

@@ -23,6 +23,7 @@ use Rattle.lower.specs.declared.Whole.{Whole}
 use Rattle.lower.specs.declared.Whole.TheVariants as W
 use Rattle.lower.specs.declared.Binary.{Binary}
 use Rattle.lower.specs.declared.Unary.{Unary}
+use Rattle.lower.specs.declared.Binary.TheVariants as B
 use Rattle.lower.specs.declared.Unary.TheVariants as U
 use Rattle.lower.specs.Exponent.{exponent_of}
 use Rattle.lower.specs.Stack.{Left, fine, stopped, constant_from, variable_if, combined, changed, pushed_by, pushed, one, two, raised, applied}
@@ -88,9 +89,9 @@ raised-sized W.Nothing l = over
 pub applied-sized : (wrt : ℕ) (t : Token) (l : List Poly) → Sized (length l - takes t + 1) (applied wrt t l)
 applied-sized wrt (T.Const x) l = pushed-sized (constant_from x) l _ (omega arith)
 applied-sized wrt (T.Var i) l = pushed-sized (variable_if i wrt) l _ (omega arith)
-applied-sized wrt T.Add l = two_sized _ l
-applied-sized wrt T.Sub l = two_sized _ l
-applied-sized wrt T.Mul l = two_sized _ l
+applied-sized wrt T.Add l = two_sized B.Add l
+applied-sized wrt T.Sub l = two_sized B.Sub l
+applied-sized wrt T.Mul l = two_sized B.Mul l
 applied-sized wrt T.Neg l = one-sized U.Neg l
 applied-sized wrt (T.Pow x) l = raised-sized (exponent_of x) l
 applied-sized wrt T.Other l = over

@@ -7,10 +7,10 @@ use borrow.Author.Rules.{rules}
 use Rattle.factor.proofs.constant.Statement.{statement}
 use Rattle.factor.proofs.constant.Tie as tie
 
-zero-requires : tie.Need-zero-requires
+zero-requires : tie.Need-zero-p-requires
 zero-requires c κs = tt
 
-element-set-from-c : tie.Need-element-set-from-c
+element-set-from-c : tie.Need-bounds-p-0
 element-set-from-c c = search rules
 
 normalise-requires : tie.Need-normalise-requires
@@ -18,8 +18,8 @@ normalise-requires c κs = tt
 
 returns : tie.Need-returns
 returns c =
-    let x = c.before.before.args.c in
-    c.normalise.ensures ∙ ap (λ (p : Poly). poly_of (trim (terms_of (record { coeffs = set p.coeffs 0 x; len = 1 })))) c.before.zero.ensures
+    let x = c.args.c in
+    c.normalise.ensures ∙ ap (λ (p : Poly). poly_of (trim (terms_of (record { coeffs = set p.coeffs 0 x; len = 1 })))) c.zero-p.ensures
 
-pub constant-spec : {M : Type 1} → statement M
-constant-spec = tie.close (tie.spec zero-requires element-set-from-c normalise-requires returns)
+pub constant_spec : {M : Type 1} → statement M
+constant_spec = tie.close (tie.spec zero-requires element-set-from-c normalise-requires returns)

@@ -7,40 +7,40 @@ use Rattle.factor.proofs.Works.{content-got, content-none}
 use Rattle.factor.proofs.content_behind.Statement.{statement}
 use Rattle.factor.proofs.content_behind.Tie as tie
 
-enum_told : tie.Need-enum-told
-enum_told c = c.match.keys1
+enum_told : tie.Need-enum_told-1
+enum_told c = c.in-Open-1.keys1
 
 content-requires : tie.Need-content-requires
 content-requires c κs = tt
 
-enum-known-c : tie.Need-enum-known-c
+enum-known-c : tie.Need-enum_known-c
 enum-known-c c = search rules
 
-enum-told-2 : tie.Need-enum-told-2
+enum-told-2 : tie.Need-enum_told-in_default-content
 enum-told-2 c = search rules
 
-returns : tie.Need-returns
+returns : tie.Need-returns-in_default-content
 returns c =
-    let k = c.before.before in
-    let s = k.before.before.before.args in
-    open-entered s.d _ refl k.before.enum_told.given.1 S.Refused _ _ (content-none s.p k.content.result k.content.ensures.0 _ c.enum-told2.given.1)
+    let k = c in
+    let s = k.args in
+    open-entered s.d _ refl k.in-Open.is S.Refused _ _ (content-none s.p k.content.result k.content.ensures.0 _ c.in_default-content.is)
 
-returns-2 : tie.Need-returns-2
+returns-2 : tie.Need-returns-in-Open
 returns-2 c =
-    let k = c.before.before.before in
-    let s = k.before.before.before.args in
-    open-entered s.d _ refl k.before.enum_told.given.1 S.Refused _ _ (content-got s.p k.content.result k.content.ensures.0 _ c.before.c.given.1)
+    let k = c in
+    let s = k.args in
+    open-entered s.d _ refl k.in-Open.is S.Refused _ _ (content-got s.p k.content.result k.content.ensures.0 _ c.in-Done.is)
 
 reason-requires : tie.Need-reason-requires
 reason-requires c κs = tt
 
-returns-3 : tie.Need-returns-3
+returns-3 : tie.Need-returns
 returns-3 c =
-    let s = c.before.before.args in
-    shut-entered s.d _ refl c.before.match.keys2 c.reason.result c.reason.ensures S.Refused _ _ refl
+    let s = c.args in
+    shut-entered s.d _ refl c.in_default.in_default-own.keys2 c.reason.result c.reason.ensures S.Refused _ _ refl
 
-pub content-behind-spec : {M : Type 1} → statement M
-content-behind-spec =
+pub content_behind_spec : {M : Type 1} → statement M
+content_behind_spec =
     tie.close
     (tie.spec
     enum_told

@@ -4,35 +4,35 @@ use Rattle.factor.proofs.Works.{with-refused, with_none, with-content}
 use Rattle.factor.proofs.content_with.Statement.{statement}
 use Rattle.factor.proofs.content_with.Tie as tie
 
-enum_told : tie.Need-enum-told
+enum_told : tie.Need-enum_told-1
 enum_told c = search rules
 
-returns : tie.Need-returns
+returns : tie.Need-returns-in-Refused
 returns c =
-    let s = c.before.before.args in
-    with-refused s.o s.c _ c.enum_told.given.1
+    let s = c.args in
+    with-refused s.o s.c _ c.in-Refused.is
 
-enum-told-2 : tie.Need-enum-told-2
+enum-told-2 : tie.Need-enum_told-in_default
 enum-told-2 c = search rules
 
-enum-known-c : tie.Need-enum-known-c
+enum-known-c : tie.Need-enum_known-c
 enum-known-c c = search rules
 
-enum-told-3 : tie.Need-enum-told-3
+enum-told-3 : tie.Need-enum_told-in_default-c
 enum-told-3 c = search rules
 
-returns-2 : tie.Need-returns-2
+returns-2 : tie.Need-returns-in_default-c
 returns-2 c =
-    let t = c.before.before in
-    let s = t.before.before.args in
-    with_none s.o s.c t.enum-told2.given.1 _ c.enum-told3.given.1
+    let t = c in
+    let s = t.args in
+    with_none s.o s.c t.in_default.is _ c.in_default-c.is
 
-returns-3 : tie.Need-returns-3
+returns-3 : tie.Need-returns
 returns-3 c =
-    let t = c.before.before.before in
-    let s = t.before.before.args in
-    with-content s.o s.c t.enum-told2.given.1 _ c.before.c.given.1
+    let t = c in
+    let s = t.args in
+    with-content s.o s.c t.in_default.is _ c.in-Done.is
 
-pub content-with-spec : {M : Type 1} → statement M
-content-with-spec =
+pub content_with_spec : {M : Type 1} → statement M
+content_with_spec =
     tie.close (tie.spec enum_told returns enum-told-2 enum-known-c enum-told-3 returns-2 returns-3)

@@ -6,37 +6,37 @@ use Rattle.factor.proofs.Rebuilds.{rebuild-both}
 use Rattle.factor.proofs.rebuild.Statement.{statement}
 use Rattle.factor.proofs.rebuild.Tie as tie
 
-factor-requires : tie.Need-factor-requires
+factor-requires : tie.Need-factor-r-requires
 factor-requires c κs = tt
 
-enum-known-o : tie.Need-enum-known-o
+enum-known-o : tie.Need-enum_known-o
 enum-known-o c = search rules
 
 refused-requires : tie.Need-refused-requires
 refused-requires c κs = tt
 
-enum_told : tie.Need-enum-told
+enum_told : tie.Need-enum_told-1
 enum_told c = search rules
 
 multiply-requires : tie.Need-multiply-requires
 multiply-requires c κs = tt
 
-returns : tie.Need-returns
+returns : tie.Need-returns-in-Refused
 returns c =
-    let g = c.before.before.before.before in
-    let s = g.before.args in
+    let g = c in
+    let s = g.args in
     rebuild-both s.p s.budget c.refused.result
-    (c.refused.ensures ∙ rebuild-refused s.p s.budget g.factor.result _ g.factor.ensures.0 c.before.before.o.given.1)
+    (c.refused.ensures ∙ rebuild-refused s.p s.budget g.factor-r.result _ g.factor-r.ensures.0 c.in-Refused.is)
 
-returns-2 : tie.Need-returns-2
+returns-2 : tie.Need-returns-in-Done
 returns-2 c =
-    let g = c.before.before.before in
-    let s = g.before.args in
+    let g = c in
+    let s = g.args in
     rebuild-both s.p s.budget c.multiply.result
-    (c.multiply.ensures ∙ rebuild-done s.p s.budget g.factor.result g.factor.ensures.0 c.before.enum_told.given.1)
+    (c.multiply.ensures ∙ rebuild-done s.p s.budget g.factor-r.result g.factor-r.ensures.0 c.in-Done.is)
 
-pub rebuild-spec : {M : Type 1} → statement M
-rebuild-spec =
+pub rebuild_spec : {M : Type 1} → statement M
+rebuild_spec =
     tie.close
     (tie.spec
     factor-requires

@@ -7,11 +7,11 @@ use Rattle.lower.proofs.Levels.{constant-found}
 use Rattle.lower.proofs.constant.Statement.{statement}
 use Rattle.lower.proofs.constant.Tie as tie
 
-f64-to-ratio-requires : tie.Need-f64-to-ratio-requires
+f64-to-ratio-requires : tie.Need-f64_to_ratio-requires
 f64-to-ratio-requires c κs = tt
 
-enum-known-c : tie.Need-enum-known-c
-enum-known-c c = c.match.keys1
+enum-known-c : tie.Need-enum_known-c
+enum-known-c c = c.in-Done-1.keys1
 
 level-requires : tie.Need-level-requires
 level-requires c κs = tt
@@ -19,24 +19,24 @@ level-requires c κs = tt
 done-requires : tie.Need-done-requires
 done-requires c κs = tt
 
-enum-known-why : tie.Need-enum-known-why
-enum-known-why c = c.match.keys2
+enum-known-why : tie.Need-enum_known-why
+enum-known-why c = c.in-Refused-1.keys2
 
 refused-requires : tie.Need-refused-requires
 refused-requires c κs = tt
 
-returns : tie.Need-returns
+returns : tie.Need-returns-in-Done
 returns c =
-    let k = c.before.before.before in
-    let f = k.before.before in
-    constant-found k.c.given.0.0 f.before.args.x f.f64-to-ratio.result k.c.given.1 f.f64-to-ratio.ensures.0 f.f64-to-ratio.ensures.1 c.done.result
-    (c.done.ensures ∙ ap (λ (p : Poly). done_with p 0) c.before.level.ensures)
+    let k = c in
+    let f = k in
+    constant-found k.in-Done.c f.args.x f.f64_to_ratio.result k.in-Done.is f.f64_to_ratio.ensures.0 f.f64_to_ratio.ensures.1 c.done.result
+    (c.done.ensures ∙ ap (λ (p : Poly). done_with p 0) c.level.ensures)
 
-returns-2 : tie.Need-returns-2
-returns-2 c = c.refused.ensures ∙ ap constant_by (sym c.before.before.why.given.1 ∙ c.before.before.before.before.f64-to-ratio.ensures.0)
+returns-2 : tie.Need-returns-in-Refused
+returns-2 c = c.refused.ensures ∙ ap constant_by (sym c.in-Refused.is ∙ c.f64_to_ratio.ensures.0)
 
-pub constant-spec : {M : Type 1} → statement M
-constant-spec =
+pub constant_spec : {M : Type 1} → statement M
+constant_spec =
     tie.close
     (tie.spec
     f64-to-ratio-requires

@@ -7,14 +7,14 @@ use Rattle.lower.proofs.Halting.{with-lowers}
 use Rattle.lower.proofs.from_lowered.Statement.{statement}
 use Rattle.lower.proofs.from_lowered.Tie as tie
 
-run-requires : tie.Need-run-requires
+run-requires : tie.Need-run-r-requires
 run-requires c κs = tt
 
-enum_told : tie.Need-enum-told
-enum_told c = c.match.keys1
+enum_told : tie.Need-enum_told-1
+enum_told c = c.in-Done-1.keys1
 
-enum-known-o : tie.Need-enum-known-o
-enum-known-o c = c.match.keys2
+enum-known-o : tie.Need-enum_known-o
+enum-known-o c = c.in-Refused-1.keys2
 
 check-requires : tie.Need-check-requires
 check-requires c κs = tt
@@ -22,24 +22,24 @@ check-requires c κs = tt
 refusal-requires : tie.Need-refusal-requires
 refusal-requires c κs = tt
 
-returns : tie.Need-returns
+returns : tie.Need-returns-in-Done
 returns c =
-    let k = c.before.before in
-    let s = k.before.before.args in
-    with-lowers s.wrt s.text.now k.run.result
-    (k.run.ensures ∙ answered-done s.wrt s.text.now (ap (λ r. r.outcome) (sym k.run.ensures) ∙ c.enum_told.given.1))
+    let k = c in
+    let s = k.args in
+    with-lowers s.wrt s.text.now k.run-r.result
+    (k.run-r.ensures ∙ answered-done s.wrt s.text.now (ap (λ r. r.outcome) (sym k.run-r.ensures) ∙ c.in-Done.is))
 
-returns-2 : tie.Need-returns-2
+returns-2 : tie.Need-returns-in-Refused
 returns-2 c =
-    let k = c.before.before.before.before.before in
-    let s = k.before.before.args in
-    let why = c.before.before.before.o.given.0.0 in
+    let k = c in
+    let s = k.args in
+    let why = c.in-Refused.why in
     with-lowers s.wrt s.text.now c.refusal.result
-    (c.refusal.ensures ∙ ap (λ o. unless_refused o (refused_with why 0)) c.before.check.ensures
-    ∙ answered-refused s.wrt s.text.now why (ap (λ r. r.outcome) (sym k.run.ensures) ∙ c.before.before.before.o.given.1))
+    (c.refusal.ensures ∙ ap (λ o. unless_refused o (refused_with why 0)) c.check.ensures
+    ∙ answered-refused s.wrt s.text.now why (ap (λ r. r.outcome) (sym k.run-r.ensures) ∙ c.in-Refused.is))
 
-pub from-lowered-spec : {M : Type 1} → statement M
-from-lowered-spec =
+pub from_lowered_spec : {M : Type 1} → statement M
+from_lowered_spec =
     tie.close
     (tie.spec
     run-requires

@@ -5,25 +5,25 @@ use Rattle.lower.specs.Run.{unless_refused}
 use Rattle.lower.proofs.refusal.Statement.{statement}
 use Rattle.lower.proofs.refusal.Tie as tie
 
-enum_told : tie.Need-enum-told
-enum_told c = c.match.keys1
+enum_told : tie.Need-enum_told-1
+enum_told c = c.in-Done-1.keys1
 
 refused-requires : tie.Need-refused-requires
 refused-requires c κs = tt
 
-enum-known-o : tie.Need-enum-known-o
-enum-known-o c = c.match.keys2
+enum-known-o : tie.Need-enum_known-o
+enum-known-o c = c.in-Refused-1.keys2
 
-refused-requires-2 : tie.Need-refused-requires-2
+refused-requires-2 : tie.Need-refused-requires-in-Refused
 refused-requires-2 c κs = tt
 
-returns : tie.Need-returns
-returns c = c.refused.ensures ∙ ap (λ o. unless_refused o (refused_with c.before.before.before.args.why 0)) (sym c.before.enum_told.given.1)
+returns : tie.Need-returns-in-Done
+returns c = c.refused.ensures ∙ ap (λ o. unless_refused o (refused_with c.args.why 0)) (sym c.in-Done.is)
 
-returns-2 : tie.Need-returns-2
-returns-2 c = c.refused2.ensures ∙ ap (λ o. unless_refused o (refused_with c.before.before.before.before.args.why 0)) (sym c.before.before.o.given.1)
+returns-2 : tie.Need-returns-in-Refused
+returns-2 c = c.refused-in-Refused.ensures ∙ ap (λ o. unless_refused o (refused_with c.args.why 0)) (sym c.in-Refused.is)
 
-pub refusal-spec : {M : Type 1} → statement M
-refusal-spec =
+pub refusal_spec : {M : Type 1} → statement M
+refusal_spec =
     tie.close
     (tie.spec enum_told refused-requires enum-known-o refused-requires-2 returns returns-2)

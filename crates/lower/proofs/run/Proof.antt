@@ -17,242 +17,242 @@ use Rattle.lower.proofs.Runs.{rest_after, rest_all, rest-none, run-stop, run_mor
 use Rattle.lower.proofs.run.Statement.{statement}
 use Rattle.lower.proofs.run.Tie as tie
 
-abbrev invariant-loop : tie.invariant-loop
+abbrev invariant-loop : tie.invariant-loop-at
 invariant-loop text wrt values₀ free₀ at₀ values free at =
     (at ≤ length text + 1) × (free ≤ 16) × (length values ≡ 16) × Opens free values
     × (bounded_from wrt (rest_after at text) (drop free values) ≡ bounded_from wrt (words_of text) [])
 
-abbrev decreases-loop : tie.decreases-loop
+abbrev decreases-loop : tie.decreases-loop-at
 decreases-loop text wrt values₀ free₀ at₀ values free at = length text + 1 - at
 
-blank-requires : tie.Need-blank-requires invariant-loop decreases-loop
+blank-requires : tie.Need-blank-values-requires invariant-loop decreases-loop
 blank-requires c κs = tt
 
-loop-holds : tie.Need-loop-init invariant-loop decreases-loop
-loop-holds c = (omega arith, omega arith, refl, record { at = λ i d a b. absurd (omega arith) }, ap (λ w. bounded_from c.before.before.args.wrt w []) (rest_all c.before.before.args.text.now))
+loop-holds : tie.Need-loop-at-init invariant-loop decreases-loop
+loop-holds c = (omega arith, omega arith, refl, record { at = λ i d a b. absurd (omega arith) }, ap (λ w. bounded_from c.args.wrt w []) (rest_all c.args.text.now))
 
-word-end-requires : tie.Need-word-end-requires invariant-loop decreases-loop
+word-end-requires : tie.Need-word_end-end-requires invariant-loop decreases-loop
 word-end-requires c κs = tt
 
-sub-token-of : tie.Need-overflow-sub-token-of invariant-loop decreases-loop
-sub-token-of c = omega (arith, c.word-end.ensures)
+sub-token-of : tie.Need-slice_bounds-token_of-count invariant-loop decreases-loop
+sub-token-of c = omega (arith, c.word_end-end.ensures)
 
-part-token-of-start : tie.Need-slice-bounds-token-of-start invariant-loop decreases-loop
+part-token-of-start : tie.Need-slice_bounds-token_of-start invariant-loop decreases-loop
 part-token-of-start c = search rules
 
-part-token-of-end : tie.Need-slice-bounds-token-of-end invariant-loop decreases-loop
+part-token-of-end : tie.Need-slice_bounds-token_of-end invariant-loop decreases-loop
 part-token-of-end c =
-    let l = c.before.before in
-    end-within l.before.before.before.args.text.now l.loop.at c.word-end.result c.before.loop-test.true c.word-end.ensures
+    let l = c in
+    end-within l.args.text.now l.loop-at.at c.word_end-end.result c.loop-at-test.true c.word_end-end.ensures
 
-token-of-requires : tie.Need-token-of-requires invariant-loop decreases-loop
+token-of-requires : tie.Need-token_of-requires invariant-loop decreases-loop
 token-of-requires c κs = tt
 
-work-of-requires : tie.Need-work-of-requires invariant-loop decreases-loop
+work-of-requires : tie.Need-work_of-work-requires invariant-loop decreases-loop
 work-of-requires c κs = tt
 
 takes-requires : tie.Need-takes-requires invariant-loop decreases-loop
 takes-requires c κs = tt
 
 -- the work is the first word's
-asks : (c : tie.After-takes invariant-loop decreases-loop) → let l = c.before.before.before.before.before.before in c.before.work-of.result ≡ work_of (token_of (take (c.before.before.before.before.word-end.result - l.loop.at) (drop l.loop.at l.before.before.before.args.text.now)))
-asks c = c.before.work-of.ensures ∙ ap work_of c.before.before.token-of.ensures
+asks : (c : tie.After-takes invariant-loop decreases-loop) → let l = c in c.work_of-work.result ≡ work_of (token_of (take (c.word_end-end.result - l.loop-at.at) (drop l.loop-at.at l.args.text.now)))
+asks c = c.work_of-work.ensures ∙ ap work_of c.token_of.ensures
 
 few : (c : tie.After-takes invariant-loop decreases-loop) → c.takes.result ≤ 2
-few c = omega (arith, c.takes.ensures, takes-few c.before.work-of.result)
+few c = omega (arith, c.takes.ensures, takes-few c.work_of-work.result)
 
-add_left : tie.Need-overflow-add-left invariant-loop decreases-loop
-add_left c = omega (arith, few c, c.before.before.before.before.before.before.loop.invariant.1)
+add_left : tie.Need-overflow_add-left invariant-loop decreases-loop
+add_left c = omega (arith, few c, c.loop-at.invariant.1)
 
 refused-requires : tie.Need-refused-requires invariant-loop decreases-loop
 refused-requires c κs = tt
 
-returns : tie.Need-returns invariant-loop decreases-loop
+returns : tie.Need-returns-then-left-gt16 invariant-loop decreases-loop
 returns c =
-    let t = c.before.before in
-    let w = t.before.before.before.before in
-    let l = w.before.before in
-    let s = l.before.before.before.args in
-    c.refused.ensures ∙ ap alone (run-stop s.text.now l.loop.at w.word-end.result w.before.loop-test.true w.word-end.ensures s.wrt (drop l.loop.free l.loop.values) t.before.work-of.result (asks t)
-    (ap bounded (too_few s.wrt l.loop.values l.loop.free l.loop.invariant.2 t.before.work-of.result l.loop.invariant.1 (omega (arith, c.before.if1.true, t.takes.ensures)))) ∙ l.loop.invariant.4)
+    let t = c in
+    let w = t in
+    let l = w in
+    let s = l.args in
+    c.refused.ensures ∙ ap alone (run-stop s.text.now l.loop-at.at w.word_end-end.result w.loop-at-test.true w.word_end-end.ensures s.wrt (drop l.loop-at.free l.loop-at.values) t.work_of-work.result (asks t.before.before)
+    (ap bounded (too_few s.wrt l.loop-at.values l.loop-at.free l.loop-at.invariant.2 t.work_of-work.result l.loop-at.invariant.1 (omega (arith, c.if-left-gt16.true, t.takes.ensures)))) ∙ l.loop-at.invariant.4)
 
-enum-known-work : tie.Need-enum-known-work invariant-loop decreases-loop
-enum-known-work c = c.match.keys1
+enum-known-work : tie.Need-enum_known-work invariant-loop decreases-loop
+enum-known-work c = c.in-Constant-1.keys1
 
-constant-requires : tie.Need-constant-requires invariant-loop decreases-loop
+constant-requires : tie.Need-constant-r-requires invariant-loop decreases-loop
 constant-requires c κs = tt
 
-enum-known-work-2 : tie.Need-enum-known-work-2 invariant-loop decreases-loop
-enum-known-work-2 c = c.match.keys2
+enum-known-work-2 : tie.Need-enum_known-work-in-Variable-1 invariant-loop decreases-loop
+enum-known-work-2 c = c.in-Variable-1.keys2
 
-variable-requires : tie.Need-variable-requires invariant-loop decreases-loop
+variable-requires : tie.Need-variable-r-requires invariant-loop decreases-loop
 variable-requires c κs = tt
 
-enum-known-work-3 : tie.Need-enum-known-work-3 invariant-loop decreases-loop
-enum-known-work-3 c = c.match.keys3
+enum-known-work-3 : tie.Need-enum_known-work-in-Change-1 invariant-loop decreases-loop
+enum-known-work-3 c = c.in-Change-1.keys3
 
-mul-change : tie.Need-overflow-mul-change invariant-loop decreases-loop
-mul-change c = record { fits = omega (arith, c.before.before.before.if1.false, c.before.before.before.before.takes.ensures, ap takes_of c.before.work3.given.1) }
+mul-change : tie.Need-offset_bounds-values-free invariant-loop decreases-loop
+mul-change c = record { fits = omega (arith, c.if-left-gt16.false, c.takes.ensures, ap takes_of c.in-Change.is) }
 
-array-copy-out-change : tie.Need-array-copy-out-change invariant-loop decreases-loop
-array-copy-out-change c = omega (arith, c.before.before.before.if1.false, c.before.before.before.before.takes.ensures, ap takes_of c.before.work3.given.1)
+array-copy-out-change : tie.Need-bounds-values-free invariant-loop decreases-loop
+array-copy-out-change c = omega (arith, c.if-left-gt16.false, c.takes.ensures, ap takes_of c.in-Change.is)
 
-change-requires : tie.Need-change-requires invariant-loop decreases-loop
+change-requires : tie.Need-change-r-requires invariant-loop decreases-loop
 change-requires c κs =
-    let l = c.before.before.before.before.before.before.before.before.before.before.before in
-    l.loop.invariant.3.at l.loop.free _ (omega arith) (omega (arith, l.loop.invariant.2, c.before.before.before.before.if1.false, c.before.before.before.before.before.takes.ensures, ap takes_of c.before.before.work3.given.1))
+    let l = c in
+    l.loop-at.invariant.3.at l.loop-at.free _ (omega arith) (omega (arith, l.loop-at.invariant.2, c.if-left-gt16.false, c.takes.ensures, ap takes_of c.in-Change.is))
 
-enum-known-work-4 : tie.Need-enum-known-work-4 invariant-loop decreases-loop
-enum-known-work-4 c = c.match.keys4
+enum-known-work-4 : tie.Need-enum_known-work-in-Combine-1 invariant-loop decreases-loop
+enum-known-work-4 c = c.in-Combine-1.keys4
 
-add-combine : tie.Need-overflow-add-combine invariant-loop decreases-loop
-add-combine c = record { fits = omega (arith, c.before.before.before.if1.false, c.before.before.before.before.takes.ensures, ap takes_of c.before.work4.given.1) }
+add-combine : tie.Need-overflow_add-free invariant-loop decreases-loop
+add-combine c = record { fits = omega (arith, c.if-left-gt16.false, c.takes.ensures, ap takes_of c.in-Combine.is) }
 
-mul-combine : tie.Need-overflow-mul-combine invariant-loop decreases-loop
-mul-combine c = record { fits = omega (arith, c.before.before.before.if1.false, c.before.before.before.before.takes.ensures, ap takes_of c.before.work4.given.1) }
+mul-combine : tie.Need-offset_bounds-values-free-in-Combine invariant-loop decreases-loop
+mul-combine c = record { fits = omega (arith, c.if-left-gt16.false, c.takes.ensures, ap takes_of c.in-Combine.is) }
 
-array-copy-out-combine : tie.Need-array-copy-out-combine invariant-loop decreases-loop
-array-copy-out-combine c = omega (arith, c.before.before.before.if1.false, c.before.before.before.before.takes.ensures, ap takes_of c.before.work4.given.1)
+array-copy-out-combine : tie.Need-bounds-values-free-in-Combine invariant-loop decreases-loop
+array-copy-out-combine c = omega (arith, c.if-left-gt16.false, c.takes.ensures, ap takes_of c.in-Combine.is)
 
-mul-combine-2 : tie.Need-overflow-mul-combine-2 invariant-loop decreases-loop
-mul-combine-2 c = record { fits = omega (arith, c.before.before.before.before.if1.false, c.before.before.before.before.before.takes.ensures, ap takes_of c.before.before.work4.given.1) }
+mul-combine-2 : tie.Need-offset_bounds-values-free-in-Combine-2 invariant-loop decreases-loop
+mul-combine-2 c = record { fits = omega (arith, c.if-left-gt16.false, c.takes.ensures, ap takes_of c.in-Combine.is) }
 
-array-copy-out-combine-2 : tie.Need-array-copy-out-combine-2 invariant-loop decreases-loop
-array-copy-out-combine-2 c = omega (arith, c.before.before.before.before.if1.false, c.before.before.before.before.before.takes.ensures, ap takes_of c.before.before.work4.given.1)
+array-copy-out-combine-2 : tie.Need-bounds-values-free-in-Combine-2 invariant-loop decreases-loop
+array-copy-out-combine-2 c = omega (arith, c.if-left-gt16.false, c.takes.ensures, ap takes_of c.in-Combine.is)
 
-combine-requires : tie.Need-combine-requires invariant-loop decreases-loop
+combine-requires : tie.Need-combine-r-requires invariant-loop decreases-loop
 combine-requires c κs =
-    let t = c.before.before.before.before.before.before in
-    let l = t.before.before.before.before.before.before in
-    let k : l.loop.free + 1 < 16 = omega (arith, c.before.before.before.before.before.if1.false, t.takes.ensures, ap takes_of c.before.before.before.work4.given.1) in
-    (l.loop.invariant.3.at (l.loop.free + 1) _ (omega arith) (omega (arith, l.loop.invariant.2, k)), l.loop.invariant.3.at l.loop.free _ (omega arith) (omega (arith, l.loop.invariant.2, k)))
+    let t = c in
+    let l = t in
+    let k : l.loop-at.free + 1 < 16 = omega (arith, c.if-left-gt16.false, t.takes.ensures, ap takes_of c.in-Combine.is) in
+    (l.loop-at.invariant.3.at (l.loop-at.free + 1) _ (omega arith) (omega (arith, l.loop-at.invariant.2, k)), l.loop-at.invariant.3.at l.loop-at.free _ (omega arith) (omega (arith, l.loop-at.invariant.2, k)))
 
-enum-known-work-5 : tie.Need-enum-known-work-5 invariant-loop decreases-loop
-enum-known-work-5 c = c.match.keys5
+enum-known-work-5 : tie.Need-enum_known-work-in-Stop-1 invariant-loop decreases-loop
+enum-known-work-5 c = c.in-Stop-1.keys5
 
-refused-requires-2 : tie.Need-refused-requires-2 invariant-loop decreases-loop
+refused-requires-2 : tie.Need-refused-r-requires invariant-loop decreases-loop
 refused-requires-2 c κs = tt
 
 -- what the arms come to
-made : (c : tie.At-match-branch invariant-loop decreases-loop) → let l = c.before.before.before.before.before.before.before.before in Made l.before.before.before.args.wrt c.before.before.before.work-of.result l.loop.values l.loop.free c.match.r
+made : (c : tie.Joined-work invariant-loop decreases-loop) → let l = c in Made l.args.wrt c.work_of-work.result l.loop-at.values l.loop-at.free c.match-work.r
 made c =
-    let t = c.before.before in
-    let l = t.before.before.before.before.before.before in
-    let x = l.before.before.before.args.wrt in
-    let v = l.loop.values in
-    let f = l.loop.free in
-    let h = l.loop.invariant.2 in
-    let w = t.before.work-of.result in
-    let r = c.match.r in
-    let k : f + takes_of w ≤ 16 = omega (arith, c.before.if1.false, t.takes.ensures) in
-    ⊎_elim (λ a. constant-made x v f h w r _ a.1.given.1 (a.4 ∙ a.3.ensures))
-    (⊎_elim (λ a. variable-made x v f h w r _ a.1.given.1 (a.4 ∙ a.3.ensures))
-    (⊎_elim (λ a. change-made x v f h w r _ _ a.1.given.1 k (a.5 ∙ a.4.ensures))
-    (⊎_elim (λ a. combine-made x v f h w r _ _ _ a.1.given.1 k (a.6 ∙ a.5.ensures))
-    (λ a. stop-made x v f h w r _ a.1.given.1 (a.4 ∙ a.3.ensures)))))
-    c.match.branch
+    let t = c in
+    let l = t in
+    let x = l.args.wrt in
+    let v = l.loop-at.values in
+    let f = l.loop-at.free in
+    let h = l.loop-at.invariant.2 in
+    let w = t.work_of-work.result in
+    let r = c.match-work.r in
+    let k : f + takes_of w ≤ 16 = omega (arith, c.if-left-gt16.false, t.takes.ensures) in
+    ⊎_elim (λ a. constant-made x v f h w r _ a.in-Constant.is (a.r-is ∙ a.constant-r.ensures))
+    (⊎_elim (λ a. variable-made x v f h w r _ a.in-Variable.is (a.r-is ∙ a.variable-r.ensures))
+    (⊎_elim (λ a. change-made x v f h w r _ _ a.in-Change.is k (a.r-is ∙ a.change-r.ensures))
+    (⊎_elim (λ a. combine-made x v f h w r _ _ _ a.in-Combine.is k (a.r-is ∙ a.combine-r.ensures))
+    (λ a. stop-made x v f h w r _ a.in-Stop.is (a.r-is ∙ a.refused-r.ensures)))))
+    c.match-work.branch-raw
 
-enum-known-o : tie.Need-enum-known-o invariant-loop decreases-loop
-enum-known-o c = c.match2.keys1
+enum-known-o : tie.Need-enum_known-o invariant-loop decreases-loop
+enum-known-o c = c.in-Refused-1.keys1
 
-refused-requires-3 : tie.Need-refused-requires-3 invariant-loop decreases-loop
+refused-requires-3 : tie.Need-refused-requires-in-Refused invariant-loop decreases-loop
 refused-requires-3 c κs = tt
 
-returns-2 : tie.Need-returns-2 invariant-loop decreases-loop
+returns-2 : tie.Need-returns-in-Refused invariant-loop decreases-loop
 returns-2 c =
-    let j = c.before.before.before.before in
-    let t = j.before.before in
-    let w = t.before.before.before.before in
-    let l = w.before.before in
-    let s = l.before.before.before.args in
-    let v = drop l.loop.free l.loop.values in
-    c.refused3.ensures ∙ ap alone (run-stop s.text.now l.loop.at w.word-end.result w.before.loop-test.true w.word-end.ensures s.wrt v t.before.work-of.result (asks t)
-    (made-stop s.wrt t.before.work-of.result l.loop.values l.loop.free j.match.r l.loop.invariant.2 (made j) _ c.before.before.o.given.1) ∙ l.loop.invariant.4)
+    let j = c in
+    let t = j in
+    let w = t in
+    let l = w in
+    let s = l.args in
+    let v = drop l.loop-at.free l.loop-at.values in
+    c.refused-in-Refused.ensures ∙ ap alone (run-stop s.text.now l.loop-at.at w.word_end-end.result w.loop-at-test.true w.word_end-end.ensures s.wrt v t.work_of-work.result (asks t.before.before.before.before)
+    (made-stop s.wrt t.work_of-work.result l.loop-at.values l.loop-at.free j.match-work.r l.loop-at.invariant.2 (made j.before.before) _ c.in-Refused.is) ∙ l.loop-at.invariant.4)
 
-enum_told : tie.Need-enum-told invariant-loop decreases-loop
-enum_told c = c.match2.keys2
+enum_told : tie.Need-enum_told-1 invariant-loop decreases-loop
+enum_told c = c.in_default-1.keys2
 
-refused-requires-4 : tie.Need-refused-requires-4 invariant-loop decreases-loop
+refused-requires-4 : tie.Need-refused-requires-then-left-eq0 invariant-loop decreases-loop
 refused-requires-4 c κs = tt
 
-returns-3 : tie.Need-returns-3 invariant-loop decreases-loop
+returns-3 : tie.Need-returns-then-left-eq0 invariant-loop decreases-loop
 returns-3 c =
-    let j = c.before.before.before.before in
-    let t = j.before.before in
-    let w = t.before.before.before.before in
-    let l = w.before.before in
-    let s = l.before.before.before.args in
-    let v = drop l.loop.free l.loop.values in
-    c.refused4.ensures ∙ ap alone (run-stop s.text.now l.loop.at w.word-end.result w.before.loop-test.true w.word-end.ensures s.wrt v t.before.work-of.result (asks t)
-    (made-full s.wrt t.before.work-of.result l.loop.values l.loop.free j.match.r l.loop.invariant.2 (made j) _ (ap (λ n. l.loop.free + n) t.takes.ensures) c.before.before.enum_told.given.1 c.before.if2.true) ∙ l.loop.invariant.4)
+    let j = c in
+    let t = j in
+    let w = t in
+    let l = w in
+    let s = l.args in
+    let v = drop l.loop-at.free l.loop-at.values in
+    c.refused-then-left-eq0.ensures ∙ ap alone (run-stop s.text.now l.loop-at.at w.word_end-end.result w.loop-at-test.true w.word_end-end.ensures s.wrt v t.work_of-work.result (asks t.before.before.before.before.before)
+    (made-full s.wrt t.work_of-work.result l.loop-at.values l.loop-at.free j.match-work.r l.loop-at.invariant.2 (made j.before.before.before) _ (ap (λ n. l.loop-at.free + n) t.takes.ensures) c.in_default.is c.if-left-eq0.true) ∙ l.loop-at.invariant.4)
 
-sub-free : tie.Need-overflow-sub-free invariant-loop decreases-loop
-sub-free c = omega (arith, c.if2.false)
+sub-free : tie.Need-overflow_sub-free invariant-loop decreases-loop
+sub-free c = omega (arith, c.if-left-eq0.false)
 
-mul-values : tie.Need-overflow-mul-values invariant-loop decreases-loop
-mul-values c = record { fits = omega (arith, c.before.before.before.before.before.if1.false) }
+mul-values : tie.Need-offset_bounds-values-free-in-loop-at invariant-loop decreases-loop
+mul-values c = record { fits = omega (arith, c.if-left-gt16.false) }
 
-array-set-from-values : tie.Need-array-set-from-values invariant-loop decreases-loop
-array-set-from-values c = omega (arith, c.before.before.before.before.before.if1.false)
+array-set-from-values : tie.Need-bounds-values-free-in-loop-at invariant-loop decreases-loop
+array-set-from-values c = omega (arith, c.if-left-gt16.false)
 
-add_at : tie.Need-overflow-add-at invariant-loop decreases-loop
+add_at : tie.Need-overflow_add-at invariant-loop decreases-loop
 add_at c =
-    let w = c.before.before.before.before.before.before.before.before.before.before in
-    let l = w.before.before in
-    let s = l.before.before.before.args in
-    record { fits = omega (arith, end-within s.text.now l.loop.at w.word-end.result w.before.loop-test.true w.word-end.ensures, l.before.before.before.well-formed.0) }
+    let w = c in
+    let l = w in
+    let s = l.args in
+    record { fits = omega (arith, end-within s.text.now l.loop-at.at w.word_end-end.result w.loop-at-test.true w.word_end-end.ensures, l.well_formed.0) }
 
-loop-less : tie.Need-loop-smaller invariant-loop decreases-loop
+loop-less : tie.Need-loop-at-smaller invariant-loop decreases-loop
 loop-less c =
-    let w = c.before.before.before.before.before.before.before.before.before.before in
-    let l = w.before.before in
-    let s = l.before.before.before.args in
-    omega (arith, end-within s.text.now l.loop.at w.word-end.result w.before.loop-test.true w.word-end.ensures, w.word-end.ensures)
+    let w = c in
+    let l = w in
+    let s = l.args in
+    omega (arith, end-within s.text.now l.loop-at.at w.word_end-end.result w.loop-at-test.true w.word_end-end.ensures, w.word_end-end.ensures)
 
-loop-again : tie.Need-loop-preserved invariant-loop decreases-loop
+loop-again : tie.Need-loop-at-preserved invariant-loop decreases-loop
 loop-again c =
-    let j = c.before.before.before.before in
-    let t = j.before.before in
-    let w = t.before.before.before.before in
-    let l = w.before.before in
-    let s = l.before.before.before.args in
-    let v = drop l.loop.free l.loop.values in
-    let n = l.loop.free + t.takes.result in (
-      omega (arith, end-within s.text.now l.loop.at w.word-end.result w.before.loop-test.true w.word-end.ensures),
-      omega (arith, j.before.if1.false),
-      length-set l.loop.values (n - 1) j.match.r.poly ∙ l.loop.invariant.2,
-      opens-put l.loop.values l.loop.free n j.match.r.poly l.loop.invariant.3 (made j).canonical (omega arith),
-      run_more s.text.now l.loop.at w.word-end.result w.before.loop-test.true w.word-end.ensures s.wrt v t.before.work-of.result (asks t)
-          (made-put s.wrt t.before.work-of.result l.loop.values l.loop.free j.match.r l.loop.invariant.2 (made j) n (ap (λ m. l.loop.free + m) t.takes.ensures) c.before.before.enum_told.given.1 j.before.if1.false c.before.if2.false) ∙ l.loop.invariant.4,
+    let j = c in
+    let t = j in
+    let w = t in
+    let l = w in
+    let s = l.args in
+    let v = drop l.loop-at.free l.loop-at.values in
+    let n = l.loop-at.free + t.takes.result in (
+      omega (arith, end-within s.text.now l.loop-at.at w.word_end-end.result w.loop-at-test.true w.word_end-end.ensures),
+      omega (arith, j.if-left-gt16.false),
+      length-set l.loop-at.values (n - 1) j.match-work.r.poly ∙ l.loop-at.invariant.2,
+      opens-put l.loop-at.values l.loop-at.free n j.match-work.r.poly l.loop-at.invariant.3 (made j.before.before.before).canonical (omega arith),
+      run_more s.text.now l.loop-at.at w.word_end-end.result w.loop-at-test.true w.word_end-end.ensures s.wrt v t.work_of-work.result (asks t.before.before.before.before.before)
+          (made-put s.wrt t.work_of-work.result l.loop-at.values l.loop-at.free j.match-work.r l.loop-at.invariant.2 (made j.before.before.before) n (ap (λ m. l.loop-at.free + m) t.takes.ensures) c.in_default.is j.if-left-gt16.false c.if-left-eq0.false) ∙ l.loop-at.invariant.4,
     )
 
-mul-done : tie.Need-overflow-mul-done invariant-loop decreases-loop
-mul-done c = record { fits = omega (arith, c.if3.true) }
+mul-done : tie.Need-offset_bounds-values-free-then-free-eq15 invariant-loop decreases-loop
+mul-done c = record { fits = omega (arith, c.if-free-eq15.true) }
 
-array-copy-out-done : tie.Need-array-copy-out-done invariant-loop decreases-loop
-array-copy-out-done c = omega (arith, c.if3.true)
+array-copy-out-done : tie.Need-bounds-values-free-then-free-eq15 invariant-loop decreases-loop
+array-copy-out-done c = omega (arith, c.if-free-eq15.true)
 
 done-requires : tie.Need-done-requires invariant-loop decreases-loop
 done-requires c κs = tt
 
-refused-requires-5 : tie.Need-refused-requires-5 invariant-loop decreases-loop
+refused-requires-5 : tie.Need-refused-requires-else-free-eq15 invariant-loop decreases-loop
 refused-requires-5 c κs = tt
 
-returns-4 : tie.Need-returns-4 invariant-loop decreases-loop
+returns-4 : tie.Need-returns-then-free-eq15 invariant-loop decreases-loop
 returns-4 c =
-    let i = c.before.before in
-    let l = i.before.before in
-    let s = l.before.before.before.args in
-    c.done.ensures ∙ alone-one l.loop.values _ l.loop.invariant.2 l.loop.free i.if3.true
-    ∙ ap alone (sym (rest-none s.text.now l.loop.at s.wrt (drop l.loop.free l.loop.values) i.before.loop-test.false) ∙ l.loop.invariant.4)
+    let i = c in
+    let l = i in
+    let s = l.args in
+    c.done.ensures ∙ alone-one l.loop-at.values _ l.loop-at.invariant.2 l.loop-at.free i.if-free-eq15.true
+    ∙ ap alone (sym (rest-none s.text.now l.loop-at.at s.wrt (drop l.loop-at.free l.loop-at.values) i.loop-at-test.false) ∙ l.loop-at.invariant.4)
 
-returns-5 : tie.Need-returns-5 invariant-loop decreases-loop
+returns-5 : tie.Need-returns-else-free-eq15 invariant-loop decreases-loop
 returns-5 c =
-    let i = c.before in
-    let l = i.before.before in
-    let s = l.before.before.before.args in
-    c.refused5.ensures ∙ alone-none l.loop.values l.loop.free l.loop.invariant.2 i.if3.false
-    ∙ ap alone (sym (rest-none s.text.now l.loop.at s.wrt (drop l.loop.free l.loop.values) i.before.loop-test.false) ∙ l.loop.invariant.4)
+    let i = c in
+    let l = i in
+    let s = l.args in
+    c.refused-else-free-eq15.ensures ∙ alone-none l.loop-at.values l.loop-at.free l.loop-at.invariant.2 i.if-free-eq15.false
+    ∙ ap alone (sym (rest-none s.text.now l.loop-at.at s.wrt (drop l.loop-at.free l.loop-at.values) i.loop-at-test.false) ∙ l.loop-at.invariant.4)
 
 pub run_spec : {M : Type 1} → statement M
 run_spec =

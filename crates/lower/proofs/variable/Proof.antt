@@ -9,11 +9,11 @@ monomial-requires c κs = tt
 refused-requires : tie.Need-refused-requires
 refused-requires c κs = tt
 
-returns : tie.Need-returns
-returns c = let s = c.before.before.args in rw (eq-eqb s.i s.wrt c.before.if1.true) c.monomial.ensures.0
+returns : tie.Need-returns-then-i-wrt
+returns c = let s = c.args in rw (eq-eqb s.i s.wrt c.if-i-wrt.true) c.monomial.ensures.0
 
-returns-2 : tie.Need-returns-2
-returns-2 c = let s = c.before.before.args in rw (ne_eqb s.i s.wrt c.before.if1.false) c.refused.ensures
+returns-2 : tie.Need-returns-else-i-wrt
+returns-2 c = let s = c.args in rw (ne_eqb s.i s.wrt c.if-i-wrt.false) c.refused.ensures
 
-pub variable-spec : {M : Type 1} → statement M
-variable-spec = tie.close (tie.spec monomial-requires refused-requires returns returns-2)
+pub variable_spec : {M : Type 1} → statement M
+variable_spec = tie.close (tie.spec monomial-requires refused-requires returns returns-2)
