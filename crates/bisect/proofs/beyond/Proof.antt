@@ -6,17 +6,17 @@ use Rattle.bisect.specs.Cut.{end_of}
 use Rattle.bisect.proofs.beyond.Statement.{statement}
 use Rattle.bisect.proofs.beyond.Tie as tie
 
-end-at-requires : tie.Need-end-at-requires
+end-at-requires : tie.Need-end_at-requires
 end-at-requires c κs = tt
 
-returns : tie.Need-returns
-returns c = c.end-at.ensures
+returns : tie.Need-returns-then-s
+returns c = c.end_at.ensures
 
-returns-2 : tie.Need-returns-2
+returns-2 : tie.Need-returns-else-s
 returns-2 c =
-    let z = c.before.before.before in
+    let z = c in
     let s = z.args in
-    z.requires.1 ∙ ap (λ (x : Float). end_of (rows_in s.values.now s.sizes.now) x) (sym (z.requires.0 c.if1.false))
+    z.requires.1 ∙ ap (λ (x : Float). end_of (rows_in s.values.now s.sizes.now) x) (sym (z.requires.0 c.if-s.false))
 
-pub beyond-spec : {M : Type 1} → statement M
-beyond-spec = tie.close (tie.spec end-at-requires returns returns-2)
+pub beyond_spec : {M : Type 1} → statement M
+beyond_spec = tie.close (tie.spec end-at-requires returns returns-2)

@@ -14,33 +14,33 @@ use Rattle.bisect.specs.Bisect.{bisect_of}
 use Rattle.bisect.proofs.bisect_isolate.Statement.{statement}
 use Rattle.bisect.proofs.bisect_isolate.Tie as tie
 
-chain-floats-requires : tie.Need-chain-floats-requires
+chain-floats-requires : tie.Need-chain_floats-t-requires
 chain-floats-requires c κs = tt
 
-slice-aggregate-between : tie.Need-slice-aggregate-between
+slice-aggregate-between : tie.Need-slice_bounds-between-end
 slice-aggregate-between c = search rules
 
-fit : (t : tie.After-chain-floats) → t.chain-floats.result.len ≤ length t.chain-floats.result.sizes
-fit t = rows_fit t.chain-floats.result (rows_of (entries_of t.before.args.c)) t.chain-floats.ensures
+fit : (t : tie.After-chain_floats-t) → t.chain_floats-t.result.len ≤ length t.chain_floats-t.result.sizes
+fit t = rows_fit t.chain_floats-t.result (rows_of (entries_of t.args.c)) t.chain_floats-t.ensures
 
-array-share-prefix-sizes : tie.Need-array-share-prefix-sizes
+array-share-prefix-sizes : tie.Need-slice_bounds-sizes-end
 array-share-prefix-sizes c = fit c.before.before.before
 
-slice-aggregate-between-2 : tie.Need-slice-aggregate-between-2
-slice-aggregate-between-2 c = let t = c.before.before.before.before in sym (length-take-le _ t.chain-floats.result.sizes (fit t))
+slice-aggregate-between-2 : tie.Need-slice_bounds-between-end-2
+slice-aggregate-between-2 c = let t = c in sym (length-take-le _ t.chain_floats-t.result.sizes (fit t.before.before.before.before))
 
 between-requires : tie.Need-between-requires
 between-requires c κs = tt
 
 returns : tie.Need-returns
 returns c =
-    let t = c.before.before.before.before.before in
-    let s = t.before.args in
+    let t = c in
+    let s = t.args in
     c.between.ensures
-    ∙ ap (λ (r : List (List Float)). brackets_of (bisect_of r s.a s.b s.tol)) (rows-lent t.chain-floats.result (rows_of (entries_of s.c)) t.chain-floats.ensures)
+    ∙ ap (λ (r : List (List Float)). brackets_of (bisect_of r s.a s.b s.tol)) (rows-lent t.chain_floats-t.result (rows_of (entries_of s.c)) t.chain_floats-t.ensures)
 
-pub bisect-isolate-spec : {M : Type 1} → statement M
-bisect-isolate-spec =
+pub bisect_isolate_spec : {M : Type 1} → statement M
+bisect_isolate_spec =
     tie.close
     (tie.spec
     chain-floats-requires

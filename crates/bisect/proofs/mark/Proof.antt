@@ -6,17 +6,17 @@ use Rattle.bisect.proofs.mark.Statement.{statement}
 use Rattle.bisect.proofs.mark.Tie as tie
 
 push-requires : tie.Need-push-requires
-push-requires c κs = c.before.requires
+push-requires c κs = c.requires
 
-returns : tie.Need-returns
+returns : tie.Need-returns-then-exact
 returns c =
-    let s = c.before.before.args in
-    c.push.ensures ∙ ap brackets_of (mark-some (found_in s.found) s.exact s.x c.before.if1.true)
+    let s = c.args in
+    c.push.ensures ∙ ap brackets_of (mark-some (found_in s.found) s.exact s.x c.if-exact.true)
 
-returns-2 : tie.Need-returns-2
+returns-2 : tie.Need-returns-else-exact
 returns-2 c =
-    let s = c.before.args in
-    c.before.requires ∙ ap brackets_of (mark-none (found_in s.found) s.exact s.x c.if1.false)
+    let s = c.args in
+    c.requires ∙ ap brackets_of (mark-none (found_in s.found) s.exact s.x c.if-exact.false)
 
 pub mark_spec : {M : Type 1} → statement M
 mark_spec = tie.close (tie.spec push-requires returns returns-2)

@@ -7,5 +7,5 @@ use Rattle.bisect.proofs.most_calls.Tie as tie
 returns : tie.Need-returns
 returns c = (refl, price-bounded)
 
-pub most-calls-spec : {M : Type 1} → statement M
-most-calls-spec = tie.close (tie.spec returns)
+pub most_calls_spec : {M : Type 1} → statement M
+most_calls_spec = tie.close (tie.spec returns)

@@ -5,11 +5,11 @@ use Rattle.bisect.proofs.Cuts.{take-most}
 use Rattle.bisect.proofs.within.Statement.{statement}
 use Rattle.bisect.proofs.within.Tie as tie
 
-returns : tie.Need-returns
+returns : tie.Need-returns-then-n-all
 returns c = (omega arith, λ l e. refl)
 
-returns-2 : tie.Need-returns-2
-returns-2 c = let s = c.before.args in (omega arith, take-most s.n s.all (omega arith))
+returns-2 : tie.Need-returns-else-n-all
+returns-2 c = let s = c.args in (omega arith, take-most s.n s.all (omega arith))
 
-pub within-spec : {M : Type 1} → statement M
-within-spec = tie.close (tie.spec returns returns-2)
+pub within_spec : {M : Type 1} → statement M
+within_spec = tie.close (tie.spec returns returns-2)

@@ -33,7 +33,7 @@ horner-at t = and 1 horner-kinds.ps (is 1 horner-kinds.ps μ-horner t) horner.Pr
 abbrev horner-below : ℕ → In 1 horner-kinds.ps
 horner-below t = and 1 horner-kinds.ps (falls 1 horner-kinds.ps ◌<◌ μ-horner t) horner.Pre
 
-horner-mul-c : (t : ℕ) → horner-lts.Need-overflow-mul-c (
+horner-mul-c : (t : ℕ) → horner-lts.Need-offset_bounds-p-i (
   constant-reads.Asked,
   constant-reads.Learnt,
   length-reads.Asked,
@@ -45,9 +45,9 @@ horner-mul-c : (t : ℕ) → horner-lts.Need-overflow-mul-c (
   write-bytes-reads.Asked,
   write-bytes-reads.Learnt,
 ) (horner-at t) horner.Post
-horner-mul-c t c = omega (arith, within-32 c.before.args.t1.len c.before.args.t1.coeffs (search (rules, long)))
+horner-mul-c t c = omega (arith, within-32 c.args.p.len c.args.p.coeffs (search (rules, long)))
 
-horner-element-copy-out-c : (t : ℕ) → horner-lts.Need-element-copy-out-c (
+horner-element-copy-out-c : (t : ℕ) → horner-lts.Need-bounds-p-i (
   constant-reads.Asked,
   constant-reads.Learnt,
   length-reads.Asked,
@@ -59,9 +59,9 @@ horner-element-copy-out-c : (t : ℕ) → horner-lts.Need-element-copy-out-c (
   write-bytes-reads.Asked,
   write-bytes-reads.Learnt,
 ) (horner-at t) horner.Post
-horner-element-copy-out-c t c = omega (arith, within-32 c.before.args.t1.len c.before.args.t1.coeffs (search (rules, long)))
+horner-element-copy-out-c t c = omega (arith, within-32 c.args.p.len c.args.p.coeffs (search (rules, long)))
 
-horner-constant-requires : (t : ℕ) → horner-lts.Need-constant-requires (
+horner-constant-requires : (t : ℕ) → horner-lts.Need-constant-lead-requires (
   constant-reads.Asked,
   constant-reads.Learnt,
   length-reads.Asked,
@@ -75,7 +75,7 @@ horner-constant-requires : (t : ℕ) → horner-lts.Need-constant-requires (
 ) (horner-at t) horner.Post
 horner-constant-requires t c κs = tt
 
-horner-add-if1 : (t : ℕ) → horner-lts.Need-overflow-add-if1 (
+horner-add-if1 : (t : ℕ) → horner-lts.Need-overflow_add-i (
   constant-reads.Asked,
   constant-reads.Learnt,
   length-reads.Asked,
@@ -87,7 +87,7 @@ horner-add-if1 : (t : ℕ) → horner-lts.Need-overflow-add-if1 (
   write-bytes-reads.Asked,
   write-bytes-reads.Learnt,
 ) (horner-at t) horner.Post
-horner-add-if1 t c = omega (arith, within-32 c.before.before.before.before.before.before.args.t1.len c.before.before.before.before.before.before.args.t1.coeffs (search (rules, long)))
+horner-add-if1 t c = omega (arith, within-32 c.args.p.len c.args.p.coeffs (search (rules, long)))
 
 horner-length-requires : (t : ℕ) → horner-lts.Need-length-requires (
   constant-reads.Asked,
@@ -103,7 +103,7 @@ horner-length-requires : (t : ℕ) → horner-lts.Need-length-requires (
 ) (horner-at t) horner.Post
 horner-length-requires t c κs = tt
 
-horner-variable-requires : (t : ℕ) → horner-lts.Need-variable-requires (
+horner-variable-requires : (t : ℕ) → horner-lts.Need-variable-x-requires (
   constant-reads.Asked,
   constant-reads.Learnt,
   length-reads.Asked,
@@ -117,7 +117,7 @@ horner-variable-requires : (t : ℕ) → horner-lts.Need-variable-requires (
 ) (horner-at t) horner.Post
 horner-variable-requires t c κs = tt
 
-horner-add-horner : (t : ℕ) → horner-lts.Need-overflow-add-horner (
+horner-add-horner : (t : ℕ) → horner-lts.Need-overflow_add-i-else-i-length (
   constant-reads.Asked,
   constant-reads.Learnt,
   length-reads.Asked,
@@ -131,7 +131,7 @@ horner-add-horner : (t : ℕ) → horner-lts.Need-overflow-add-horner (
 ) (horner-at t) horner.Post
 horner-add-horner t c = omega arith
 
-horner-horner-requires : (t : ℕ) → horner-lts.Need-horner-requires (
+horner-horner-requires : (t : ℕ) → horner-lts.Need-horner-rest-requires (
   constant-reads.Asked,
   constant-reads.Learnt,
   length-reads.Asked,
@@ -143,23 +143,9 @@ horner-horner-requires : (t : ℕ) → horner-lts.Need-horner-requires (
   write-bytes-reads.Asked,
   write-bytes-reads.Learnt,
 ) (horner-at t) horner.Post
-horner-horner-requires t c κs = (omega (arith, c.before.before.before.before.before.before.length.ensures), omega (arith, c.before.before.before.before.before.before.length.ensures))
+horner-horner-requires t c κs = (omega (arith, c.length.ensures), omega (arith, c.length.ensures))
 
-horner-slice-aggregate-write-bytes : (t : ℕ) → horner-lts.Need-slice-aggregate-write-bytes (
-  constant-reads.Asked,
-  constant-reads.Learnt,
-  length-reads.Asked,
-  length-reads.Learnt,
-  variable-reads.Asked,
-  variable-reads.Learnt,
-  horner-below t,
-  horner.Post,
-  write-bytes-reads.Asked,
-  write-bytes-reads.Learnt,
-) (horner-at t) horner.Post
-horner-slice-aggregate-write-bytes t c = search rules
-
-horner-write-bytes-requires : (t : ℕ) → horner-lts.Need-write-bytes-requires (
+horner-write-bytes-requires : (t : ℕ) → horner-lts.Need-write_bytes-requires (
   constant-reads.Asked,
   constant-reads.Learnt,
   length-reads.Asked,
@@ -173,7 +159,7 @@ horner-write-bytes-requires : (t : ℕ) → horner-lts.Need-write-bytes-requires
 ) (horner-at t) horner.Post
 horner-write-bytes-requires t c κs = tt
 
-horner-same-length : (t : ℕ) → horner-lts.Need-same-length (
+horner-same-length : (t : ℕ) → horner-lts.Need-shape_of-out-then-i-length (
   constant-reads.Asked,
   constant-reads.Learnt,
   length-reads.Asked,
@@ -185,9 +171,9 @@ horner-same-length : (t : ℕ) → horner-lts.Need-same-length (
   write-bytes-reads.Asked,
   write-bytes-reads.Learnt,
 ) (horner-at t) horner.Post
-horner-same-length t c = c.before.before.before.before.constant.auto.1.0
+horner-same-length t c = c.constant-lead.auto.out
 
-horner-returns : (t : ℕ) → horner-lts.Need-returns (
+horner-returns : (t : ℕ) → horner-lts.Need-returns-then-i-length (
   constant-reads.Asked,
   constant-reads.Learnt,
   length-reads.Asked,
@@ -200,12 +186,12 @@ horner-returns : (t : ℕ) → horner-lts.Need-returns (
   write-bytes-reads.Learnt,
 ) (horner-at t) horner.Post
 horner-returns t c =
-    let s = c.before.before.before.before.before.before.before.before.args in
-    let l = terms_of s.t1 in
-    lays-as _ _ _ _ (ap constant (read-terms s.t1.len s.t1.coeffs s.i past zero_r c.before.before.before.before.before.before.before.before.requires.1) ∙ rest-last s.wrt l s.i zero_r (omega (arith, c.before.length.ensures)))
-    c.before.before.before.before.constant.ensures
+    let s = c.args in
+    let l = terms_of s.p in
+    lays-as _ _ _ _ (ap constant (read-terms s.p.len s.p.coeffs s.i past zero_r c.requires.1) ∙ rest-last s.wrt l s.i zero_r (omega (arith, c.length.ensures)))
+    c.constant-lead.ensures
 
-horner-same-length-2 : (t : ℕ) → horner-lts.Need-same-length-2 (
+horner-same-length-2 : (t : ℕ) → horner-lts.Need-shape_of-out-else-i-length (
   constant-reads.Asked,
   constant-reads.Learnt,
   length-reads.Asked,
@@ -217,9 +203,9 @@ horner-same-length-2 : (t : ℕ) → horner-lts.Need-same-length-2 (
   write-bytes-reads.Asked,
   write-bytes-reads.Learnt,
 ) (horner-at t) horner.Post
-horner-same-length-2 t c = c.before.before.write_bytes.auto.1.0 ∙ c.before.before.before.before.before.before.before.horner.auto.1.1.1.0 ∙ c.before.before.before.before.before.before.before.before.before.before.before.variable.auto.1.0 ∙ c.before.before.before.before.before.before.before.before.before.before.before.before.before.before.before.before.before.constant.auto.1.0
+horner-same-length-2 t c = c.write_bytes.auto.out ∙ c.horner-rest.auto.out ∙ c.variable-x.auto.out ∙ c.constant-lead.auto.out
 
-horner-returns-2 : (t : ℕ) → horner-lts.Need-returns-2 (
+horner-returns-2 : (t : ℕ) → horner-lts.Need-returns-else-i-length (
   constant-reads.Asked,
   constant-reads.Learnt,
   length-reads.Asked,
@@ -232,14 +218,14 @@ horner-returns-2 : (t : ℕ) → horner-lts.Need-returns-2 (
   write-bytes-reads.Learnt,
 ) (horner-at t) horner.Post
 horner-returns-2 t c =
-    let s = c.before.before.before.before.before.before.before.before.before.before.before.before.before.before.before.before.before.before.before.before.before.args in
-    let l = terms_of s.t1 in
-    let e = read-terms s.t1.len s.t1.coeffs s.i past zero_r c.before.before.before.before.before.before.before.before.before.before.before.before.before.before.before.before.before.before.before.before.before.requires.1 in
-    lays-as _ _ _ _ (ap (λ a. ((constant a ++ (bytes " " ++ variable s.wrt ++ bytes " ")) ++ lowered_text s.wrt (drop (s.i + 1) l)) ++ bytes " * +") e ∙ rest_more s.wrt l s.i zero_r (omega (arith, c.before.before.before.before.before.before.before.before.before.before.before.before.before.before.length.ensures)))
-    (lays-then _ _ _ _ (lays-then _ _ _ _ (lays-then _ _ _ _ c.before.before.before.before.before.before.before.before.before.before.before.before.before.before.before.before.before.constant.ensures c.before.before.before.before.before.before.before.before.before.before.before.variable.ensures) c.before.before.before.before.before.before.before.horner.ensures) c.before.before.write_bytes.ensures)
+    let s = c.args in
+    let l = terms_of s.p in
+    let e = read-terms s.p.len s.p.coeffs s.i past zero_r c.requires.1 in
+    lays-as _ _ _ _ (ap (λ a. ((constant a ++ (bytes " " ++ variable s.wrt ++ bytes " ")) ++ lowered_text s.wrt (drop (s.i + 1) l)) ++ bytes " * +") e ∙ rest_more s.wrt l s.i zero_r (omega (arith, c.length.ensures)))
+    (lays-then _ _ _ _ (lays-then _ _ _ _ (lays-then _ _ _ _ c.constant-lead.ensures c.variable-x.ensures) c.horner-rest.ensures) c.write_bytes.ensures)
 
-pub +horner-spec : {M : Type 1} → statement M
-+horner-spec = close μ-horner λ t. horner-lts.spec (
+pub +horner_spec : {M : Type 1} → statement M
++horner_spec = close μ-horner λ t. horner-lts.spec (
   constant-reads.Asked,
   constant-reads.Learnt,
   length-reads.Asked,
@@ -261,7 +247,6 @@ pub +horner-spec : {M : Type 1} → statement M
     (horner-variable-requires t)
     (horner-add-horner t)
     (horner-horner-requires t)
-    (horner-slice-aggregate-write-bytes t)
     (horner-write-bytes-requires t)
     (horner-same-length t)
     (horner-returns t)

@@ -6,11 +6,11 @@ use native.Mathlib.Omega.{arith}
 use Rattle.horner.proofs.index_door.Statement.{statement}
 use Rattle.horner.proofs.index_door.Tie as tie
 
-returns : tie.Need-returns
-returns c = sym (ap open_if (le-leb c.before.args.wrt 255 (omega arith)))
+returns : tie.Need-returns-then-wrt-le255
+returns c = sym (ap open_if (le-leb c.args.wrt 255 (omega arith)))
 
-returns-2 : tie.Need-returns-2
-returns-2 c = sym (ap open_if (lt-leb c.before.args.wrt 255 (omega arith)))
+returns-2 : tie.Need-returns-else-wrt-le255
+returns-2 c = sym (ap open_if (lt-leb c.args.wrt 255 (omega arith)))
 
-pub index-door-spec : {M : Type 1} → statement M
-index-door-spec = tie.close (tie.spec returns returns-2)
+pub index_door_spec : {M : Type 1} → statement M
+index_door_spec = tie.close (tie.spec returns returns-2)

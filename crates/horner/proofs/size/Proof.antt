@@ -10,42 +10,42 @@ use Rattle.horner.proofs.Sizes.{size_none, size-some, size-short}
 use Rattle.horner.proofs.size.Statement.{statement}
 use Rattle.horner.proofs.size.Tie as tie
 
-length-requires : tie.Need-length-requires
+length-requires : tie.Need-length-n-requires
 length-requires c κs = tt
 
-sub-result : tie.Need-overflow-sub-result
+sub-result : tie.Need-overflow_sub-result
 sub-result c = search rules
 
 digits-requires : tie.Need-digits-requires
 digits-requires c κs = search rules
 
 -- at most 32 coefficients
-few : (c : tie.After-digits) → c.before.before.length.result ≤ 32
+few : (c : tie.After-digits) → c.length-n.result ≤ 32
 few c =
-    let s = c.before.before.before.args.p in
-    omega (arith, c.before.before.length.ensures, within-32 s.len s.coeffs (search (rules, long)))
+    let s = c.args.p in
+    omega (arith, c.length-n.ensures, within-32 s.len s.coeffs (search (rules, long)))
 
 -- and few bytes
-short : (c : tie.After-digits) → 17 + (c.before.before.length.result - 1) * (24 + c.digits.result) ≤ 1381
-short c = rw c.digits.ensures (size-short c.before.before.before.args.wrt c.before.before.length.result (few c))
+short : (c : tie.After-digits) → 17 + (c.length-n.result - 1) * (24 + c.digits.result) ≤ 1381
+short c = rw c.digits.ensures (size-short c.args.wrt c.length-n.result (few c))
 
-add-result : tie.Need-overflow-add-result
-add-result c = omega (arith, c.digits.ensures, decimal-length c.before.before.before.args.wrt)
+add-result : tie.Need-overflow_add-result
+add-result c = omega (arith, c.digits.ensures, decimal-length c.args.wrt)
 
-mul-result : tie.Need-overflow-mul-result
+mul-result : tie.Need-overflow_mul-result
 mul-result c = omega (arith, short c)
 
-add-result-2 : tie.Need-overflow-add-result-2
+add-result-2 : tie.Need-overflow_add-result-else-n-eq0
 add-result-2 c = omega (arith, short c)
 
-returns : tie.Need-returns
-returns c = size_none _ _ (sym c.before.length.ensures ∙ omega arith)
+returns : tie.Need-returns-then-n-eq0
+returns c = size_none _ _ (sym c.length-n.ensures ∙ omega arith)
 
-returns-2 : tie.Need-returns-2
-returns-2 c = rw c.digits.ensures (size-some c.before.before.before.args.wrt c.before.before.length.result (terms_of c.before.before.before.args.p) c.before.before.length.ensures (λ e. omega arith))
+returns-2 : tie.Need-returns-else-n-eq0
+returns-2 c = rw c.digits.ensures (size-some c.args.wrt c.length-n.result (terms_of c.args.p) c.length-n.ensures (λ e. omega arith))
 
-pub size-spec : {M : Type 1} → statement M
-size-spec =
+pub size_spec : {M : Type 1} → statement M
+size_spec =
     tie.close
     (tie.spec
     length-requires

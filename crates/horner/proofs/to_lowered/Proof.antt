@@ -10,32 +10,32 @@ use Rattle.horner.proofs.to_lowered.Statement.{statement}
 use Rattle.horner.proofs.to_lowered.Tie as tie
 
 -- the door that was found is the model's
-gate : (c : tie.After-both) → c.both.result ≡ doors c.before.before.before.before.args.p c.before.before.before.before.args.wrt
-gate c = c.both.ensures ∙ ap₂ both c.before.before.index-door.ensures c.before.door.ensures
+gate : (c : tie.After-both-d) → c.both-d.result ≡ doors c.args.p c.args.wrt
+gate c = c.both-d.ensures ∙ ap₂ both c.index_door.ensures c.door.ensures
 
-index-door-requires : tie.Need-index-door-requires
+index-door-requires : tie.Need-index_door-requires
 index-door-requires c κs = tt
 
 door-requires : tie.Need-door-requires
 door-requires c κs = tt
 
-both-requires : tie.Need-both-requires
+both-requires : tie.Need-both-d-requires
 both-requires c κs = tt
 
-enum_told : tie.Need-enum-told
-enum_told c = c.match.keys1
+enum_told : tie.Need-enum_told-1
+enum_told c = c.in-Open-1.keys1
 
-size-requires : tie.Need-size-requires
-size-requires c κs = let s = c.before.before.before.before.before.before.args in index-open s.p s.wrt s.out.now _ (gate c.before.before) c.enum_told.given.1
+size-requires : tie.Need-size-len-requires
+size-requires c κs = let s = c.args in index-open s.p s.wrt s.out.now _ (gate c.before) c.in-Open.is
 
 refused-requires : tie.Need-refused-requires
 refused-requires c κs = tt
 
-returns : tie.Need-returns
+returns : tie.Need-returns-then-out-len
 returns c =
-    let g = c.before.before.before.before.before in
-    let s = g.before.before.before.before.args in
-    no_room s.p s.wrt s.out.now g.both.result (gate g) c.before.before.before.enum_told.given.1 c.refused.result (omega (arith, c.before.before.size.ensures)) c.refused.ensures
+    let g = c in
+    let s = g.args in
+    no_room s.p s.wrt s.out.now g.both-d.result (gate g.before.before.before.before) c.in-Open.is c.refused.result (omega (arith, c.size-len.ensures)) c.refused.ensures
 
 write-requires : tie.Need-write-requires
 write-requires c κs = tt
@@ -43,26 +43,26 @@ write-requires c κs = tt
 reason-requires : tie.Need-reason-requires
 reason-requires c κs = tt
 
-refused-requires-2 : tie.Need-refused-requires-2
+refused-requires-2 : tie.Need-refused-requires-in_default
 refused-requires-2 c κs = tt
 
-same_length : tie.Need-same-length
+same_length : tie.Need-shape_of-out
 same_length c = search rules
 
-returns-2 : tie.Need-returns-2
+returns-2 : tie.Need-returns-else-out-len
 returns-2 c =
-    let g = c.before.before.before.before.before.before.before.before in
-    let s = g.before.before.before.before.args in
-    all-written s.p s.wrt s.out.now g.both.result (gate g) c.before.before.before.before.before.before.enum_told.given.1 _ _ (search (rules, long)) (omega (arith, c.before.before.before.before.before.size.ensures)) (ap done_after c.before.before.before.before.before.size.ensures) c.before.before.write.ensures.1
+    let g = c in
+    let s = g.args in
+    all-written s.p s.wrt s.out.now g.both-d.result (gate g.before.before.before.before.before.before.before) c.in-Open.is _ _ (search (rules, long)) (omega (arith, c.size-len.ensures)) (ap done_after c.size-len.ensures) c.write.ensures.1
 
-returns-3 : tie.Need-returns-3
+returns-3 : tie.Need-returns-in_default
 returns-3 c =
-    let g = c.before.before.before in
-    let s = g.before.before.before.before.args in
-    shut_out s.p s.wrt s.out.now g.both.result (gate g) c.refused2.result c.before.reason.result c.before.before.match.keys2 c.before.reason.ensures c.refused2.ensures
+    let g = c in
+    let s = g.args in
+    shut_out s.p s.wrt s.out.now g.both-d.result (gate g.before.before.before) c.refused-in_default.result c.reason.result c.in_default.in_default-own.keys2 c.reason.ensures c.refused-in_default.ensures
 
-pub to-lowered-spec : {M : Type 1} → statement M
-to-lowered-spec =
+pub to_lowered_spec : {M : Type 1} → statement M
+to_lowered_spec =
     tie.close
     (tie.spec
     index-door-requires

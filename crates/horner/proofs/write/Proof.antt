@@ -17,19 +17,19 @@ constant-requires c κs = tt
 horner-requires : tie.Need-horner-requires
 horner-requires c κs = search rules
 
-same_length : tie.Need-same-length
+same_length : tie.Need-shape_of-out-then-length-eq0
 same_length c = search rules
 
-returns : tie.Need-returns
+returns : tie.Need-returns-then-length-eq0
 returns c =
-    let s = c.before.before.before.before.before.before.before.args in
-    lays-as _ _ _ _ (rest-none s.wrt (terms_of s.p) (sym c.before.before.before.before.before.length.ensures ∙ omega arith)) c.before.before.constant.ensures
+    let s = c.args in
+    lays-as _ _ _ _ (rest-none s.wrt (terms_of s.p) (sym c.length.ensures ∙ omega arith)) c.constant.ensures
 
-same-length-2 : tie.Need-same-length-2
+same-length-2 : tie.Need-shape_of-out-else-length-eq0
 same-length-2 c = search rules
 
-returns-2 : tie.Need-returns-2
-returns-2 c = c.before.before.horner.ensures
+returns-2 : tie.Need-returns-else-length-eq0
+returns-2 c = c.horner.ensures
 
 pub write_spec : {M : Type 1} → statement M
 write_spec =
