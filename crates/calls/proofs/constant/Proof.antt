@@ -7,17 +7,17 @@ use borrow.Author.Rules.{rules}
 use Rattle.calls.proofs.constant.Statement.{statement}
 use Rattle.calls.proofs.constant.Tie as tie
 
-zero-requires : tie.Need-zero-requires
+zero-requires : tie.Need-zero-p-requires
 zero-requires c κs = search rules
 
-element-set-from-c : tie.Need-element-set-from-c
+element-set-from-c : tie.Need-bounds-p-0
 element-set-from-c c = search rules
 
 normalise-requires : tie.Need-normalise-requires
 normalise-requires c κs = search rules
 
 returns : tie.Need-returns
-returns c = c.normalise.ensures ∙ ap (λ (p : Poly). poly_of (trim (take 1 (set p.coeffs 0 c.before.before.args.c)))) c.before.zero.ensures
+returns c = c.normalise.ensures ∙ ap (λ (p : Poly). poly_of (trim (take 1 (set p.coeffs 0 c.args.c)))) c.zero-p.ensures
 
-pub constant-spec : {M : Type 1} → statement M
-constant-spec = tie.close (tie.spec zero-requires element-set-from-c normalise-requires returns)
+pub constant_spec : {M : Type 1} → statement M
+constant_spec = tie.close (tie.spec zero-requires element-set-from-c normalise-requires returns)

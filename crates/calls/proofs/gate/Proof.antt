@@ -4,23 +4,23 @@ use borrow.Author.Rules.{rules}
 use Rattle.calls.proofs.gate.Statement.{statement}
 use Rattle.calls.proofs.gate.Tie as tie
 
-enum_told : tie.Need-enum-told
+enum_told : tie.Need-enum_told-1
 enum_told c = search rules
 
-enum-known-o : tie.Need-enum-known-o
+enum-known-o : tie.Need-enum_known-o
 enum-known-o c = search rules
 
 number-requires : tie.Need-number-requires
 number-requires c κs = search rules
 
-returns : tie.Need-returns
+returns : tie.Need-returns-in-Done
 returns c = search rules
 
-returns-2 : tie.Need-returns-2
-returns-2 c = gate-long _ _ c.before.number.result c.before.number.ensures c.before.before.before.o.given.1 c.if1.true
+returns-2 : tie.Need-returns-then-number-eq4
+returns-2 c = gate-long _ _ c.number.result c.number.ensures c.in-Refused.is c.if-number-eq4.true
 
-returns-3 : tie.Need-returns-3
-returns-3 c = gate-bad _ _ c.before.number.result c.before.number.ensures c.before.before.before.o.given.1 c.if1.false
+returns-3 : tie.Need-returns-else-number-eq4
+returns-3 c = gate-bad _ _ c.number.result c.number.ensures c.in-Refused.is c.if-number-eq4.false
 
-pub gate-spec : {M : Type 1} → statement M
-gate-spec = tie.close (tie.spec enum_told enum-known-o number-requires returns returns-2 returns-3)
+pub gate_spec : {M : Type 1} → statement M
+gate_spec = tie.close (tie.spec enum_told enum-known-o number-requires returns returns-2 returns-3)

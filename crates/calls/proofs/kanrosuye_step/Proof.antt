@@ -6,35 +6,35 @@ use borrow.Author.Rules.{rules}
 use Rattle.calls.proofs.kanrosuye_step.Statement.{statement}
 use Rattle.calls.proofs.kanrosuye_step.Tie as tie
 
-step-requires : tie.Need-step-requires
+step-requires : tie.Need-step-s-requires
 step-requires c κs = search rules
 
-enum-known-s : tie.Need-enum-known-s
+enum-known-s : tie.Need-enum_known-s
 enum-known-s c = search rules
 
-enum-known-s-2 : tie.Need-enum-known-s-2
+enum-known-s-2 : tie.Need-enum_known-s-in-Refused-1
 enum-known-s-2 c = search rules
 
 number-requires : tie.Need-number-requires
 number-requires c κs = search rules
 
-returns : tie.Need-returns
+returns : tie.Need-returns-in-Done
 returns c =
-    let m = c.before.before.before.before.before in
-    let s = m.before in
-    let v = c.before.before.before.s.given.0.0 in
-    let e = sym (m.step.ensures ∙ step-read s.args.op s.args.an s.args.ad s.args.bn s.args.bd s.ranges.an s.ranges.ad s.ranges.bn s.ranges.bd) ∙ c.before.before.before.s.given.1 in
-    (step-done _ v e, step-lent _ v e _ (record { sfits = c.before.struct_told.given.0.1 }) (record { sfits = c.before.struct_told.given.1.0.1 }))
+    let m = c in
+    let s = m in
+    let v = c.in-Done.v in
+    let e = sym (m.step-s.ensures ∙ step-read s.args.op s.args.an s.args.ad s.args.bn s.args.bd s.ranges.an s.ranges.ad s.ranges.bn s.ranges.bd) ∙ c.in-Done.is in
+    (step-done _ v e, step-lent _ v e _ (record { sfits = c.struct_told-1.given.0.1 }) (record { sfits = c.struct_told-1.given.1.0.1 }))
 
-returns-2 : tie.Need-returns-2
+returns-2 : tie.Need-returns-in-Refused
 returns-2 c =
-    let m = c.before.before.before.before in
-    let s = m.before in
-    let w = c.before.before.s2.given.0.0 in
-    let e = sym (m.step.ensures ∙ step-read s.args.op s.args.an s.args.ad s.args.bn s.args.bd s.ranges.an s.ranges.ad s.ranges.bn s.ranges.bd) ∙ c.before.before.s2.given.1 in
+    let m = c in
+    let s = m in
+    let w = c.in-Refused.why in
+    let e = sym (m.step-s.ensures ∙ step-read s.args.op s.args.an s.args.ad s.args.bn s.args.bd s.ranges.an s.ranges.ad s.ranges.bn s.ranges.bd) ∙ c.in-Refused.is in
     (step-refused _ w e c.number.result c.number.ensures, step_kept _ w e _)
 
-pub kanrosuye-step-spec : {M : Type 1} → statement M
-kanrosuye-step-spec =
+pub kanrosuye_step_spec : {M : Type 1} → statement M
+kanrosuye_step_spec =
     tie.close
     (tie.spec step-requires enum-known-s enum-known-s-2 number-requires returns returns-2)

@@ -5,27 +5,27 @@ use borrow.Author.Rules.{rules}
 use Rattle.calls.proofs.number.Statement.{statement}
 use Rattle.calls.proofs.number.Tie as tie
 
-mul-up : tie.Need-overflow-mul-up
+mul-up : tie.Need-overflow_mul-up
 mul-up c = search rules
 
-enum_told : tie.Need-enum-told
+enum_told : tie.Need-enum_told-1
 enum_told c = search rules
 
-enum-known-o : tie.Need-enum-known-o
+enum-known-o : tie.Need-enum_known-o
 enum-known-o c = search rules
 
 number-requires : tie.Need-number-requires
 number-requires c κs = search rules
 
-add-result : tie.Need-overflow-add-result
-add-result c = omega (arith, c.number.ensures, number-few c.before.before.o.given.0.0)
+add-result : tie.Need-overflow_add-result
+add-result c = omega (arith, c.number.ensures, number-few c.in-Refused.why)
 
-returns : tie.Need-returns
-returns c = number-done _ _ c.enum_told.given.1
+returns : tie.Need-returns-in-Done
+returns c = number-done _ _ c.in-Done.is
 
-returns-2 : tie.Need-returns-2
-returns-2 c = number-refused c.before.before.before.before.args.o _ c.number.result c.before.before.o.given.0.0 c.before.before.o.given.1 c.number.ensures
+returns-2 : tie.Need-returns-in-Refused
+returns-2 c = number-refused c.args.o _ c.number.result c.in-Refused.why c.in-Refused.is c.number.ensures
 
-pub number-spec : {M : Type 1} → statement M
-number-spec =
+pub number_spec : {M : Type 1} → statement M
+number_spec =
     tie.close (tie.spec mul-up enum_told enum-known-o number-requires add-result returns returns-2)

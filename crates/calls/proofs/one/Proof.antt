@@ -15,47 +15,47 @@ told-requires c κs = search rules
 diff-requires : tie.Need-diff-requires
 diff-requires c κs = search rules
 
-told-requires-2 : tie.Need-told-requires-2
+told-requires-2 : tie.Need-told-requires-then-op-eq7
 told-requires-2 c κs = search rules
 
 discriminant-requires : tie.Need-discriminant-requires
 discriminant-requires c κs = search rules
 
-told-whole-requires : tie.Need-told-whole-requires
+told-whole-requires : tie.Need-told_whole-requires
 told-whole-requires c κs = search rules
 
 pow-requires : tie.Need-pow-requires
 pow-requires c κs = search rules
 
-told-requires-3 : tie.Need-told-requires-3
+told-requires-3 : tie.Need-told-requires-then-op-eq15
 told-requires-3 c κs = search rules
 
-square-free-requires : tie.Need-square-free-requires
+square-free-requires : tie.Need-square_free-requires
 square-free-requires c κs = search rules
 
-told-requires-4 : tie.Need-told-requires-4
+told-requires-4 : tie.Need-told-requires-then-op-eq16
 told-requires-4 c κs = search rules
 
 rooted-requires : tie.Need-rooted-requires
 rooted-requires c κs = search rules
 
-returns : tie.Need-returns
-returns c = rw (eq-eqb c.before.before.before.args.op 6 c.before.before.if1.true) (c.told.ensures ∙ ap told_answer c.before.neg.ensures.0)
+returns : tie.Need-returns-then-op-eq6
+returns c = rw (eq-eqb c.args.op 6 c.if-op-eq6.true) (c.told.ensures ∙ ap told_answer c.neg.ensures.0)
 
-returns-2 : tie.Need-returns-2
-returns-2 c = rw (ne_eqb c.before.before.before.before.args.op 6 c.before.before.before.if1.false, eq-eqb c.before.before.before.before.args.op 7 c.before.before.if2.true) (c.told2.ensures ∙ ap told_answer c.before.diff.ensures.0)
+returns-2 : tie.Need-returns-then-op-eq7
+returns-2 c = rw (ne_eqb c.args.op 6 c.if-op-eq6.false, eq-eqb c.args.op 7 c.if-op-eq7.true) (c.told-then-op-eq7.ensures ∙ ap told_answer c.diff.ensures.0)
 
-returns-3 : tie.Need-returns-3
-returns-3 c = rw (ne_eqb c.before.before.before.before.before.args.op 6 c.before.before.before.before.if1.false, ne_eqb c.before.before.before.before.before.args.op 7 c.before.before.before.if2.false, eq-eqb c.before.before.before.before.before.args.op 8 c.before.before.if3.true) (c.told-whole.ensures ∙ ap told_whole c.before.discriminant.ensures.0)
+returns-3 : tie.Need-returns-then-op-eq8
+returns-3 c = rw (ne_eqb c.args.op 6 c.if-op-eq6.false, ne_eqb c.args.op 7 c.if-op-eq7.false, eq-eqb c.args.op 8 c.if-op-eq8.true) (c.told_whole.ensures ∙ ap told_whole c.discriminant.ensures.0)
 
-returns-4 : tie.Need-returns-4
-returns-4 c = rw (ne_eqb c.before.before.before.before.before.before.args.op 6 c.before.before.before.before.before.if1.false, ne_eqb c.before.before.before.before.before.before.args.op 7 c.before.before.before.before.if2.false, ne_eqb c.before.before.before.before.before.before.args.op 8 c.before.before.before.if3.false, eq-eqb c.before.before.before.before.before.before.args.op 15 c.before.before.if4.true) (c.told3.ensures ∙ ap told_answer c.before.pow.ensures.0)
+returns-4 : tie.Need-returns-then-op-eq15
+returns-4 c = rw (ne_eqb c.args.op 6 c.if-op-eq6.false, ne_eqb c.args.op 7 c.if-op-eq7.false, ne_eqb c.args.op 8 c.if-op-eq8.false, eq-eqb c.args.op 15 c.if-op-eq15.true) (c.told-then-op-eq15.ensures ∙ ap told_answer c.pow.ensures.0)
 
-returns-5 : tie.Need-returns-5
-returns-5 c = rw (ne_eqb c.before.before.before.before.before.before.before.args.op 6 c.before.before.before.before.before.before.if1.false, ne_eqb c.before.before.before.before.before.before.before.args.op 7 c.before.before.before.before.before.if2.false, ne_eqb c.before.before.before.before.before.before.before.args.op 8 c.before.before.before.before.if3.false, ne_eqb c.before.before.before.before.before.before.before.args.op 15 c.before.before.before.if4.false, eq-eqb c.before.before.before.before.before.before.before.args.op 16 c.before.before.if5.true) (c.told4.ensures ∙ ap told_answer c.before.square-free.ensures.0)
+returns-5 : tie.Need-returns-then-op-eq16
+returns-5 c = rw (ne_eqb c.args.op 6 c.if-op-eq6.false, ne_eqb c.args.op 7 c.if-op-eq7.false, ne_eqb c.args.op 8 c.if-op-eq8.false, ne_eqb c.args.op 15 c.if-op-eq15.false, eq-eqb c.args.op 16 c.if-op-eq16.true) (c.told-then-op-eq16.ensures ∙ ap told_answer c.square_free.ensures.0)
 
-returns-6 : tie.Need-returns-6
-returns-6 c = rw (ne_eqb c.before.before.before.before.before.before.args.op 6 c.before.before.before.before.before.if1.false, ne_eqb c.before.before.before.before.before.before.args.op 7 c.before.before.before.before.if2.false, ne_eqb c.before.before.before.before.before.before.args.op 8 c.before.before.before.if3.false, ne_eqb c.before.before.before.before.before.before.args.op 15 c.before.before.if4.false, ne_eqb c.before.before.before.before.before.before.args.op 16 c.before.if5.false) c.rooted.ensures
+returns-6 : tie.Need-returns-else-op-eq16
+returns-6 c = rw (ne_eqb c.args.op 6 c.if-op-eq6.false, ne_eqb c.args.op 7 c.if-op-eq7.false, ne_eqb c.args.op 8 c.if-op-eq8.false, ne_eqb c.args.op 15 c.if-op-eq15.false, ne_eqb c.args.op 16 c.if-op-eq16.false) c.rooted.ensures
 
 pub one_spec : {M : Type 1} → statement M
 one_spec =

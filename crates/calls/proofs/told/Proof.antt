@@ -10,7 +10,7 @@ zero-requires : tie.Need-zero-requires
 zero-requires c κs = search rules
 
 returns : tie.Need-returns
-returns c = let a = c.before.before.args.a in ap {B = Division} (λ (p : Poly). record { outcome = a.outcome; quotient = a.poly; rest = p; steps = a.steps }) c.zero.ensures
+returns c = let a = c.args.a in ap {B = Division} (λ (p : Poly). record { outcome = a.outcome; quotient = a.poly; rest = p; steps = a.steps }) c.zero.ensures
 
-pub told-spec : {M : Type 1} → statement M
-told-spec = tie.close (tie.spec zero-requires returns)
+pub told_spec : {M : Type 1} → statement M
+told_spec = tie.close (tie.spec zero-requires returns)

@@ -14,8 +14,8 @@ zero-requires c κs = search rules
 
 returns : tie.Need-returns
 returns c =
-    let f = c.before.before.args.f in
-    ap₂ {C = Division} (λ (p q : Poly). record { outcome = f.outcome; quotient = p; rest = q; steps = f.len }) c.before.constant.ensures c.zero.ensures
+    let f = c.args.f in
+    ap₂ {C = Division} (λ (p q : Poly). record { outcome = f.outcome; quotient = p; rest = q; steps = f.len }) c.constant.ensures c.zero.ensures
 
-pub told-content-spec : {M : Type 1} → statement M
-told-content-spec = tie.close (tie.spec constant-requires zero-requires returns)
+pub told_content_spec : {M : Type 1} → statement M
+told_content_spec = tie.close (tie.spec constant-requires zero-requires returns)

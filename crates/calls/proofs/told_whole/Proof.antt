@@ -17,7 +17,7 @@ zero-requires : tie.Need-zero-requires
 zero-requires c κs = search rules
 
 returns : tie.Need-returns
-returns c = let w = c.before.before.before.args.w in ap₂ {C = Division} (λ (p q : Poly). record { outcome = w.outcome; quotient = p; rest = q; steps = w.steps }) (c.before.constant.ensures ∙ ap (λ (z : ℤ). constant_of (whole_r z)) (to_z-of_z {z = w.value} (record { sfits = c.before.before.struct_told.given.1.0.1 }))) c.zero.ensures
+returns c = let w = c.args.w in ap₂ {C = Division} (λ (p q : Poly). record { outcome = w.outcome; quotient = p; rest = q; steps = w.steps }) (c.constant.ensures ∙ ap (λ (z : ℤ). constant_of (whole_r z)) (to_z-of_z {w = Rattle.std.proofs.Common.w64} {z = w.value} (record { sfits = c.struct_told-1.given.1.0.1 }))) c.zero.ensures
 
-pub told-whole-spec : {M : Type 1} → statement M
-told-whole-spec = tie.close (tie.spec constant-requires zero-requires returns)
+pub told_whole_spec : {M : Type 1} → statement M
+told_whole_spec = tie.close (tie.spec constant-requires zero-requires returns)

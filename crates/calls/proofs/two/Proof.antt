@@ -15,16 +15,16 @@ zip-requires c κs = search rules
 told-requires : tie.Need-told-requires
 told-requires c κs = search rules
 
-zip-requires-2 : tie.Need-zip-requires-2
+zip-requires-2 : tie.Need-zip-requires-then-op-eq1
 zip-requires-2 c κs = search rules
 
-told-requires-2 : tie.Need-told-requires-2
+told-requires-2 : tie.Need-told-requires-then-op-eq1
 told-requires-2 c κs = search rules
 
 times-requires : tie.Need-times-requires
 times-requires c κs = search rules
 
-told-requires-3 : tie.Need-told-requires-3
+told-requires-3 : tie.Need-told-requires-then-op-eq2
 told-requires-3 c κs = search rules
 
 divide-requires : tie.Need-divide-requires
@@ -33,53 +33,53 @@ divide-requires c κs = search rules
 greatest-requires : tie.Need-greatest-requires
 greatest-requires c κs = search rules
 
-told-requires-4 : tie.Need-told-requires-4
+told-requires-4 : tie.Need-told-requires-then-op-eq4
 told-requires-4 c κs = search rules
 
 resultant-requires : tie.Need-resultant-requires
 resultant-requires c κs = search rules
 
-told-whole-requires : tie.Need-told-whole-requires
+told-whole-requires : tie.Need-told_whole-requires
 told-whole-requires c κs = search rules
 
 point-requires : tie.Need-point-requires
 point-requires c κs = search rules
 
-value-at-requires : tie.Need-value-at-requires
+value-at-requires : tie.Need-value_at-requires
 value-at-requires c κs = search rules
 
-told-step-requires : tie.Need-told-step-requires
+told-step-requires : tie.Need-told_step-requires
 told-step-requires c κs = search rules
 
 factored-requires : tie.Need-factored-requires
 factored-requires c κs = search rules
 
-returns : tie.Need-returns
-returns c = rw (eq-eqb c.before.before.before.args.op 0 c.before.before.if1.true) (c.told.ensures ∙ ap told_answer (c.before.zip.ensures ∙ open-add c.before.before.before.args.a c.before.before.before.args.b c.before.before.before.requires.0 c.before.before.before.requires.1))
+returns : tie.Need-returns-then-op-eq0
+returns c = rw (eq-eqb c.args.op 0 c.if-op-eq0.true) (c.told.ensures ∙ ap told_answer (c.zip.ensures ∙ open-add c.args.a c.args.b c.requires.0 c.requires.1))
 
-returns-2 : tie.Need-returns-2
-returns-2 c = rw (ne_eqb c.before.before.before.before.args.op 0 c.before.before.before.if1.false, eq-eqb c.before.before.before.before.args.op 1 c.before.before.if2.true) (c.told2.ensures ∙ ap told_answer (c.before.zip2.ensures ∙ open-sub c.before.before.before.before.args.a c.before.before.before.before.args.b c.before.before.before.before.requires.0 c.before.before.before.before.requires.1))
+returns-2 : tie.Need-returns-then-op-eq1
+returns-2 c = rw (ne_eqb c.args.op 0 c.if-op-eq0.false, eq-eqb c.args.op 1 c.if-op-eq1.true) (c.told-then-op-eq1.ensures ∙ ap told_answer (c.zip-then-op-eq1.ensures ∙ open-sub c.args.a c.args.b c.requires.0 c.requires.1))
 
-returns-3 : tie.Need-returns-3
-returns-3 c = rw (ne_eqb c.before.before.before.before.before.args.op 0 c.before.before.before.before.if1.false, ne_eqb c.before.before.before.before.before.args.op 1 c.before.before.before.if2.false, eq-eqb c.before.before.before.before.before.args.op 2 c.before.before.if3.true) (c.told3.ensures ∙ ap told_answer (c.before.times.ensures ∙ open-mul c.before.before.before.before.before.args.a c.before.before.before.before.before.args.b c.before.before.before.before.before.requires.0 c.before.before.before.before.before.requires.1))
+returns-3 : tie.Need-returns-then-op-eq2
+returns-3 c = rw (ne_eqb c.args.op 0 c.if-op-eq0.false, ne_eqb c.args.op 1 c.if-op-eq1.false, eq-eqb c.args.op 2 c.if-op-eq2.true) (c.told-then-op-eq2.ensures ∙ ap told_answer (c.times.ensures ∙ open-mul c.args.a c.args.b c.requires.0 c.requires.1))
 
-returns-4 : tie.Need-returns-4
-returns-4 c = rw (ne_eqb c.before.before.before.before.before.args.op 0 c.before.before.before.before.if1.false, ne_eqb c.before.before.before.before.before.args.op 1 c.before.before.before.if2.false, ne_eqb c.before.before.before.before.before.args.op 2 c.before.before.if3.false, eq-eqb c.before.before.before.before.before.args.op 3 c.before.if4.true) (c.divide.ensures ∙ open-divide c.before.before.before.before.before.args.a c.before.before.before.before.before.args.b c.before.before.before.before.before.requires.0 c.before.before.before.before.before.requires.1)
+returns-4 : tie.Need-returns-then-op-eq3
+returns-4 c = rw (ne_eqb c.args.op 0 c.if-op-eq0.false, ne_eqb c.args.op 1 c.if-op-eq1.false, ne_eqb c.args.op 2 c.if-op-eq2.false, eq-eqb c.args.op 3 c.if-op-eq3.true) (c.divide.ensures ∙ open-divide c.args.a c.args.b c.requires.0 c.requires.1)
 
-returns-5 : tie.Need-returns-5
-returns-5 c = rw (ne_eqb c.before.before.before.before.before.before.before.args.op 0 c.before.before.before.before.before.before.if1.false, ne_eqb c.before.before.before.before.before.before.before.args.op 1 c.before.before.before.before.before.if2.false, ne_eqb c.before.before.before.before.before.before.before.args.op 2 c.before.before.before.before.if3.false, ne_eqb c.before.before.before.before.before.before.before.args.op 3 c.before.before.before.if4.false, eq-eqb c.before.before.before.before.before.before.before.args.op 4 c.before.before.if5.true) (c.told4.ensures ∙ ap told_answer (c.before.greatest.ensures ∙ open-gcd c.before.before.before.before.before.before.before.args.a c.before.before.before.before.before.before.before.args.b c.before.before.before.before.before.before.before.requires.0 c.before.before.before.before.before.before.before.requires.1))
+returns-5 : tie.Need-returns-then-op-eq4
+returns-5 c = rw (ne_eqb c.args.op 0 c.if-op-eq0.false, ne_eqb c.args.op 1 c.if-op-eq1.false, ne_eqb c.args.op 2 c.if-op-eq2.false, ne_eqb c.args.op 3 c.if-op-eq3.false, eq-eqb c.args.op 4 c.if-op-eq4.true) (c.told-then-op-eq4.ensures ∙ ap told_answer (c.greatest.ensures ∙ open-gcd c.args.a c.args.b c.requires.0 c.requires.1))
 
-returns-6 : tie.Need-returns-6
-returns-6 c = rw (ne_eqb c.before.before.before.before.before.before.before.before.args.op 0 c.before.before.before.before.before.before.before.if1.false, ne_eqb c.before.before.before.before.before.before.before.before.args.op 1 c.before.before.before.before.before.before.if2.false, ne_eqb c.before.before.before.before.before.before.before.before.args.op 2 c.before.before.before.before.before.if3.false, ne_eqb c.before.before.before.before.before.before.before.before.args.op 3 c.before.before.before.before.if4.false, ne_eqb c.before.before.before.before.before.before.before.before.args.op 4 c.before.before.before.if5.false, eq-eqb c.before.before.before.before.before.before.before.before.args.op 5 c.before.before.if6.true) (c.told-whole.ensures ∙ ap told_whole c.before.resultant.ensures.0)
+returns-6 : tie.Need-returns-then-op-eq5
+returns-6 c = rw (ne_eqb c.args.op 0 c.if-op-eq0.false, ne_eqb c.args.op 1 c.if-op-eq1.false, ne_eqb c.args.op 2 c.if-op-eq2.false, ne_eqb c.args.op 3 c.if-op-eq3.false, ne_eqb c.args.op 4 c.if-op-eq4.false, eq-eqb c.args.op 5 c.if-op-eq5.true) (c.told_whole.ensures ∙ ap told_whole c.resultant.ensures.0)
 
-returns-7 : tie.Need-returns-7
-returns-7 c = rw (ne_eqb c.before.before.before.before.before.before.before.before.before.before.args.op 0 c.before.before.before.before.before.before.before.before.before.if1.false, ne_eqb c.before.before.before.before.before.before.before.before.before.before.args.op 1 c.before.before.before.before.before.before.before.before.if2.false, ne_eqb c.before.before.before.before.before.before.before.before.before.before.args.op 2 c.before.before.before.before.before.before.before.if3.false, ne_eqb c.before.before.before.before.before.before.before.before.before.before.args.op 3 c.before.before.before.before.before.before.if4.false, ne_eqb c.before.before.before.before.before.before.before.before.before.before.args.op 4 c.before.before.before.before.before.if5.false, ne_eqb c.before.before.before.before.before.before.before.before.before.before.args.op 5 c.before.before.before.before.if6.false, eq-eqb c.before.before.before.before.before.before.before.before.before.before.args.op 12 c.before.before.before.if7.true) (c.told-step.ensures ∙ ap told_step (c.before.value-at.ensures ∙ ap (value_of (terms_of c.before.before.before.before.before.before.before.before.before.before.args.a)) c.before.before.point.ensures ∙ open-value c.before.before.before.before.before.before.before.before.before.before.args.a c.before.before.before.before.before.before.before.before.before.before.args.b c.before.before.before.before.before.before.before.before.before.before.requires.0 c.before.before.before.before.before.before.before.before.before.before.requires.1))
+returns-7 : tie.Need-returns-then-op-eq12
+returns-7 c = rw (ne_eqb c.args.op 0 c.if-op-eq0.false, ne_eqb c.args.op 1 c.if-op-eq1.false, ne_eqb c.args.op 2 c.if-op-eq2.false, ne_eqb c.args.op 3 c.if-op-eq3.false, ne_eqb c.args.op 4 c.if-op-eq4.false, ne_eqb c.args.op 5 c.if-op-eq5.false, eq-eqb c.args.op 12 c.if-op-eq12.true) (c.told_step.ensures ∙ ap told_step (c.value_at.ensures ∙ ap (value_of (terms_of c.args.a)) c.point.ensures ∙ open-value c.args.a c.args.b c.requires.0 c.requires.1))
 
-returns-8 : tie.Need-returns-8
-returns-8 c = rw (ne_eqb c.before.before.before.before.before.before.before.before.args.op 0 c.before.before.before.before.before.before.before.if1.false, ne_eqb c.before.before.before.before.before.before.before.before.args.op 1 c.before.before.before.before.before.before.if2.false, ne_eqb c.before.before.before.before.before.before.before.before.args.op 2 c.before.before.before.before.before.if3.false, ne_eqb c.before.before.before.before.before.before.before.before.args.op 3 c.before.before.before.before.if4.false, ne_eqb c.before.before.before.before.before.before.before.before.args.op 4 c.before.before.before.if5.false, ne_eqb c.before.before.before.before.before.before.before.before.args.op 5 c.before.before.if6.false, ne_eqb c.before.before.before.before.before.before.before.before.args.op 12 c.before.if7.false) c.factored.ensures
+returns-8 : tie.Need-returns-else-op-eq12
+returns-8 c = rw (ne_eqb c.args.op 0 c.if-op-eq0.false, ne_eqb c.args.op 1 c.if-op-eq1.false, ne_eqb c.args.op 2 c.if-op-eq2.false, ne_eqb c.args.op 3 c.if-op-eq3.false, ne_eqb c.args.op 4 c.if-op-eq4.false, ne_eqb c.args.op 5 c.if-op-eq5.false, ne_eqb c.args.op 12 c.if-op-eq12.false) c.factored.ensures
 
-pub two-spec : {M : Type 1} → statement M
-two-spec =
+pub two_spec : {M : Type 1} → statement M
+two_spec =
     tie.close
     (tie.spec
     zip-requires

@@ -7,19 +7,19 @@ use Rattle.terms.proofs.Lists.{long}
 use Rattle.isolate.proofs.count.Statement.{statement}
 use Rattle.isolate.proofs.count.Tie as tie
 
-returns : tie.Need-returns
+returns : tie.Need-returns-then-n-lt64
 returns c =
-    let s = c.before.args.b in
+    let s = c.args.b in
     let e : length s.items ≡ 64 = search (rules, long) in
     let k = length-take s.len s.items in
-    omega (arith, c.if1.true)
+    omega (arith, c.if-n-lt64.true)
 
-returns-2 : tie.Need-returns-2
+returns-2 : tie.Need-returns-else-n-lt64
 returns-2 c =
-    let s = c.before.args.b in
+    let s = c.args.b in
     let e : length s.items ≡ 64 = search (rules, long) in
     let k = length-take s.len s.items in
-    omega (arith, c.if1.false)
+    omega (arith, c.if-n-lt64.false)
 
 pub count_spec : {M : Type 1} → statement M
 count_spec = tie.close (tie.spec returns returns-2)

@@ -14,27 +14,27 @@ use Rattle.isolate.specs.Sorted.{roots_onto}
 use Rattle.isolate.proofs.gather.Statement.{statement}
 use Rattle.isolate.proofs.gather.Tie as tie
 
-floats-requires : tie.Need-floats-requires
+floats-requires : tie.Need-floats-row-requires
 floats-requires c κs = tt
 
-fit : (t : tie.After-floats) → t.floats.result.len ≤ length t.floats.result.values
-fit t = row-fit t.floats.result (floats_of (terms_of t.before.args.p)) t.floats.ensures
+fit : (t : tie.After-floats-row) → t.floats-row.result.len ≤ length t.floats-row.result.values
+fit t = row-fit t.floats-row.result (floats_of (terms_of t.args.p)) t.floats-row.ensures
 
-array-share-prefix-values : tie.Need-array-share-prefix-values
+array-share-prefix-values : tie.Need-slice_bounds-values-end
 array-share-prefix-values c = fit c.before
 
-slice-aggregate-roots-along : tie.Need-slice-aggregate-roots-along
-slice-aggregate-roots-along c = let t = c.before.before in sym (length-take-le _ t.floats.result.values (fit t))
+slice-aggregate-roots-along : tie.Need-slice_bounds-roots_along-end
+slice-aggregate-roots-along c = let t = c in sym (length-take-le _ t.floats-row.result.values (fit t.before.before))
 
-roots-along-requires : tie.Need-roots-along-requires
+roots-along-requires : tie.Need-roots_along-requires
 roots-along-requires c κs = tt
 
 returns : tie.Need-returns
 returns c =
-    let t = c.before.before.before in
-    let s = t.before.args in
-    c.roots-along.ensures
-    ∙ ap (λ (l : List Float). holding (roots_onto l s.tol (items_of s.b) [])) (row-lent t.floats.result (floats_of (terms_of s.p)) t.floats.ensures)
+    let t = c in
+    let s = t.args in
+    c.roots_along.ensures
+    ∙ ap (λ (l : List Float). holding (roots_onto l s.tol (items_of s.b) [])) (row-lent t.floats-row.result (floats_of (terms_of s.p)) t.floats-row.ensures)
 
-pub gather-spec : {M : Type 1} → statement M
-gather-spec = tie.close (tie.spec floats-requires array-share-prefix-values slice-aggregate-roots-along roots-along-requires returns)
+pub gather_spec : {M : Type 1} → statement M
+gather_spec = tie.close (tie.spec floats-requires array-share-prefix-values slice-aggregate-roots-along roots-along-requires returns)

@@ -14,13 +14,13 @@ limits-requires c κs = tt
 door-requires : tie.Need-door-requires
 door-requires c κs = tt
 
-both-requires : tie.Need-both-requires
+both-requires : tie.Need-both-d-requires
 both-requires c κs = tt
 
-enum_told : tie.Need-enum-told
-enum_told c = c.match.keys1
+enum_told : tie.Need-enum_told-1
+enum_told c = c.in-Open-1.keys1
 
-isolate-plain-requires : tie.Need-isolate-plain-requires
+isolate-plain-requires : tie.Need-isolate_plain-requires
 isolate-plain-requires c κs = tt
 
 reason-requires : tie.Need-reason-requires
@@ -29,26 +29,26 @@ reason-requires c κs = tt
 refused-requires : tie.Need-refused-requires
 refused-requires c κs = tt
 
-gate : (c : tie.After-both) → let s = c.before.before.before.args in c.both.result ≡ both (limits_of s.lo s.hi s.tol) (door_of s.p)
-gate c = c.both.ensures ∙ ap₂ both c.before.before.limits.ensures c.before.door.ensures
+gate : (c : tie.After-both-d) → let s = c.args in c.both-d.result ≡ both (limits_of s.lo s.hi s.tol) (door_of s.p)
+gate c = c.both-d.ensures ∙ ap₂ both c.limits.ensures c.door.ensures
 
-returns : tie.Need-returns
+returns : tie.Need-returns-in-Open
 returns c =
-    let g = c.before.before.before in
-    let s = g.before.before.before.args in
-    isolate-both s.p s.lo s.hi s.tol c.isolate-plain.result
-    (open-entered g.both.result _ (gate g) c.before.enum_told.given.1 refused_for _ c.isolate-plain.result c.isolate-plain.ensures)
+    let g = c in
+    let s = g.args in
+    isolate-both s.p s.lo s.hi s.tol c.isolate_plain.result
+    (open-entered g.both-d.result _ (gate g.before.before) c.in-Open.is refused_for _ c.isolate_plain.result c.isolate_plain.ensures)
 
-returns-2 : tie.Need-returns-2
+returns-2 : tie.Need-returns-in_default
 returns-2 c =
-    let w = c.before in
-    let g = w.before.before in
-    let s = g.before.before.before.args in
+    let w = c in
+    let g = w in
+    let s = g.args in
     isolate-both s.p s.lo s.hi s.tol c.refused.result
-    (shut-entered g.both.result _ (gate g) w.before.match.keys2 w.reason.result w.reason.ensures refused_for _ c.refused.result c.refused.ensures)
+    (shut-entered g.both-d.result _ (gate g.before.before.before) w.in_default.in_default-own.keys2 w.reason.result w.reason.ensures refused_for _ c.refused.result c.refused.ensures)
 
-pub isolate-real-roots-spec : {M : Type 1} → statement M
-isolate-real-roots-spec =
+pub isolate_real_roots_spec : {M : Type 1} → statement M
+isolate_real_roots_spec =
     tie.close
     (tie.spec
     limits-requires

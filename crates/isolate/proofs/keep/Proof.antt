@@ -8,46 +8,46 @@ use Rattle.isolate.proofs.keep.Statement.{statement}
 use Rattle.isolate.proofs.keep.Tie as tie
 
 push-requires : tie.Need-push-requires
-push-requires c κs = (c.before.requires.0, c.before.requires.1)
+push-requires c κs = (c.requires.0, c.requires.1)
 
-returns : tie.Need-returns
+returns : tie.Need-returns-then-n-eq0
 returns c =
-    let i = c.before in
-    let z = i.before in
+    let i = c in
+    let z = i in
     let s = z.args in
-    c.push.ensures ∙ ap holding (kept-far s.tol s.x (roots_in s.t1) (near_none s.tol s.x (roots_in s.t1) (omega (arith, i.if1.true, kept-len s.t1 z.requires.0))))
+    c.push.ensures ∙ ap holding (kept-far s.tol s.x (roots_in s.found) (near_none s.tol s.x (roots_in s.found) (omega (arith, i.if-n-eq0.true, kept-len s.found z.requires.0))))
 
-sub-last : tie.Need-overflow-sub-last
+sub-last : tie.Need-overflow_sub-last
 sub-last c = omega arith
 
-mul-last : tie.Need-overflow-mul-last
-mul-last c = omega (arith, c.before.requires.1, kept-len c.before.args.t1 c.before.requires.0)
+mul-last : tie.Need-offset_bounds-found-n
+mul-last c = omega (arith, c.requires.1, kept-len c.args.found c.requires.0)
 
-element-copy-out-last : tie.Need-element-copy-out-last
-element-copy-out-last c = omega (arith, c.before.requires.1, kept-len c.before.args.t1 c.before.requires.0)
+element-copy-out-last : tie.Need-bounds-found-n
+element-copy-out-last c = omega (arith, c.requires.1, kept-len c.args.found c.requires.0)
 
 size-requires : tie.Need-size-requires
 size-requires c κs = tt
 
-returns-2 : tie.Need-returns-2
+returns-2 : tie.Need-returns-then-size-tol
 returns-2 c =
-    let q = c.before in
-    let i = q.before.before in
-    let z = i.before in
+    let q = c in
+    let i = q in
+    let z = i in
     let s = z.args in
-    z.requires.0 ∙ ap holding (kept_near s.tol s.x (roots_in s.t1) (near-read s.t1 s.tol s.x _ q.size.result z.requires.0 (omega (arith, i.if1.false)) q.size.ensures ∙ c.if2.true))
+    z.requires.0 ∙ ap holding (kept_near s.tol s.x (roots_in s.found) (near-read s.found s.tol s.x _ q.size.result z.requires.0 (omega (arith, i.if-n-eq0.false)) q.size.ensures ∙ c.if-size-tol.true))
 
 push-requires-2 : tie.Need-push-requires-2
-push-requires-2 c κs = let z = c.before.before.before.before in (z.requires.0, z.requires.1)
+push-requires-2 c κs = let z = c in (z.requires.0, z.requires.1)
 
-returns-3 : tie.Need-returns-3
+returns-3 : tie.Need-returns
 returns-3 c =
-    let e = c.before in
-    let q = e.before in
-    let i = q.before.before in
-    let z = i.before in
+    let e = c in
+    let q = e in
+    let i = q in
+    let z = i in
     let s = z.args in
-    c.push2.ensures ∙ ap holding (kept-far s.tol s.x (roots_in s.t1) (near-read s.t1 s.tol s.x _ q.size.result z.requires.0 (omega (arith, i.if1.false)) q.size.ensures ∙ e.if2.false))
+    c.push-2.ensures ∙ ap holding (kept-far s.tol s.x (roots_in s.found) (near-read s.found s.tol s.x _ q.size.result z.requires.0 (omega (arith, i.if-n-eq0.false)) q.size.ensures ∙ e.if-size-tol.false))
 
 pub keep_spec : {M : Type 1} → statement M
 keep_spec =

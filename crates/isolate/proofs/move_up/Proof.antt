@@ -6,20 +6,20 @@ use Rattle.isolate.specs.Sorted.{slide_if}
 use Rattle.isolate.proofs.move_up.Statement.{statement}
 use Rattle.isolate.proofs.move_up.Tie as tie
 
-returns : tie.Need-returns
+returns : tie.Need-returns-then-moving
 returns c =
-    let s = c.before.args in
-    ap (λ (m : Bool). slide_if (cond m true (lt s.carried s.y)) s.carried s.y) (sym c.if1.true)
+    let s = c.args in
+    ap (λ (m : Bool). slide_if (cond m true (lt s.carried s.y)) s.carried s.y) (sym c.if-moving.true)
 
-returns-2 : tie.Need-returns-2
+returns-2 : tie.Need-returns-then-carried-y
 returns-2 c =
-    let s = c.before.before.args in
-    ap₂ (λ (m t : Bool). slide_if (cond m true t) s.carried s.y) (sym c.before.if1.false) (sym c.if2.true)
+    let s = c.args in
+    ap₂ (λ (m t : Bool). slide_if (cond m true t) s.carried s.y) (sym c.if-moving.false) (sym c.if-carried-y.true)
 
-returns-3 : tie.Need-returns-3
+returns-3 : tie.Need-returns-else-carried-y
 returns-3 c =
-    let s = c.before.before.args in
-    ap₂ (λ (m t : Bool). slide_if (cond m true t) s.carried s.y) (sym c.before.if1.false) (sym c.if2.false)
+    let s = c.args in
+    ap₂ (λ (m t : Bool). slide_if (cond m true t) s.carried s.y) (sym c.if-moving.false) (sym c.if-carried-y.false)
 
 pub move_up_spec : {M : Type 1} → statement M
 move_up_spec = tie.close (tie.spec returns returns-2 returns-3)

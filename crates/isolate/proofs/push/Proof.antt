@@ -4,13 +4,13 @@ use Rattle.isolate.proofs.Hold.{kept-len, push-done}
 use Rattle.isolate.proofs.push.Statement.{statement}
 use Rattle.isolate.proofs.push.Tie as tie
 
-mul-out : tie.Need-overflow-mul-out
+mul-out : tie.Need-offset_bounds-out-n
 mul-out c = omega (arith, c.requires.1, kept-len c.args.found c.requires.0)
 
-element-write-out : tie.Need-element-write-out
+element-write-out : tie.Need-bounds-out-n
 element-write-out c = omega (arith, c.requires.1, kept-len c.args.found c.requires.0)
 
-add-out : tie.Need-overflow-add-out
+add-out : tie.Need-overflow_add-out
 add-out c = omega (arith, c.requires.1, kept-len c.args.found c.requires.0)
 
 returns : tie.Need-returns

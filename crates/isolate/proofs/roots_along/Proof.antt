@@ -11,63 +11,63 @@ use Rattle.isolate.proofs.Walks.{Gathering, gathering-none, gathering-more, gath
 use Rattle.isolate.proofs.roots_along.Statement.{statement}
 use Rattle.isolate.proofs.roots_along.Tie as tie
 
-abbrev invariant-loop : tie.invariant-loop
+abbrev invariant-loop : tie.invariant-loop-i
 invariant-loop row tol b n out₀ i₀ out i = (n ≡ length (items_of b)) × (n ≤ 64) × (i ≤ n) × Gathering row tol (items_of b) i out
 
-abbrev decreases-loop : tie.decreases-loop
+abbrev decreases-loop : tie.decreases-loop-i
 decreases-loop row tol b n out₀ i₀ out i = n - i
 
-count-requires : tie.Need-count-requires invariant-loop decreases-loop
+count-requires : tie.Need-count-n-requires invariant-loop decreases-loop
 count-requires c κs = tt
 
-nothing-requires : tie.Need-nothing-requires invariant-loop decreases-loop
+nothing-requires : tie.Need-nothing-out-requires invariant-loop decreases-loop
 nothing-requires c κs = tt
 
-loop-holds : tie.Need-loop-init invariant-loop decreases-loop
+loop-holds : tie.Need-loop-i-init invariant-loop decreases-loop
 loop-holds c =
-    let k = c.before in
-    let s = k.before.before.args in
-    let e : length s.t2.items ≡ 64 = search (rules, long) in
-    (k.count.ensures, omega (arith, k.count.ensures, length-take s.t2.len s.t2.items), omega arith, gathering-none s.row.now s.tol (items_of s.t2) c.nothing.result c.nothing.ensures)
+    let k = c in
+    let s = k.args in
+    let e : length s.b.items ≡ 64 = search (rules, long) in
+    (k.count-n.ensures, omega (arith, k.count-n.ensures, length-take s.b.len s.b.items), omega arith, gathering-none s.row.now s.tol (items_of s.b) c.nothing-out.result c.nothing-out.ensures)
 
-mul-x : tie.Need-overflow-mul-x invariant-loop decreases-loop
+mul-x : tie.Need-offset_bounds-b-i invariant-loop decreases-loop
 mul-x c = omega arith
 
-element-copy-out-x : tie.Need-element-copy-out-x invariant-loop decreases-loop
+element-copy-out-x : tie.Need-bounds-b-i invariant-loop decreases-loop
 element-copy-out-x c = omega arith
 
-root-in-requires : tie.Need-root-in-requires invariant-loop decreases-loop
+root-in-requires : tie.Need-root_in-requires invariant-loop decreases-loop
 root-in-requires c κs = tt
 
-place-requires : tie.Need-place-requires invariant-loop decreases-loop
+place-requires : tie.Need-place-out-requires invariant-loop decreases-loop
 place-requires c κs =
-    let l = c.before.before.before in
-    let v = l.loop.invariant in
+    let l = c in
+    let v = l.loop-i.invariant in
     (v.3.is, omega (arith, v.3.few, v.1))
 
-add-i : tie.Need-overflow-add-i invariant-loop decreases-loop
+add-i : tie.Need-overflow_add-i invariant-loop decreases-loop
 add-i c = omega arith
 
-loop-less : tie.Need-loop-smaller invariant-loop decreases-loop
+loop-less : tie.Need-loop-i-smaller invariant-loop decreases-loop
 loop-less c = omega arith
 
-loop-again : tie.Need-loop-preserved invariant-loop decreases-loop
+loop-again : tie.Need-loop-i-preserved invariant-loop decreases-loop
 loop-again c =
-    let r = c.before in
-    let l = r.before.before.before in
-    let s = l.before.before.before.before.args in
-    let v = l.loop.invariant in
-    (v.0, v.1, omega arith, gathering-more s.row.now s.tol (items_of s.t2) l.loop.i l.loop.out v.3 _ (next_of s.t2.len s.t2.items l.loop.i _ (omega (arith, v.0))) r.root_in.result r.root_in.ensures c.place.result c.place.ensures)
+    let r = c in
+    let l = r in
+    let s = l.args in
+    let v = l.loop-i.invariant in
+    (v.0, v.1, omega arith, gathering-more s.row.now s.tol (items_of s.b) l.loop-i.i l.loop-i.out v.3 _ (next_of s.b.len s.b.items l.loop-i.i _ (omega (arith, v.0))) r.root_in.result r.root_in.ensures c.place-out.result c.place-out.ensures)
 
 returns : tie.Need-returns invariant-loop decreases-loop
 returns c =
-    let l = c.before in
-    let s = l.before.before.before.before.args in
-    let v = l.loop.invariant in
-    gathering-end s.row.now s.tol (items_of s.t2) l.loop.i l.loop.out v.3 (omega (arith, v.0, length-drop l.loop.i (items_of s.t2)))
+    let l = c in
+    let s = l.args in
+    let v = l.loop-i.invariant in
+    gathering-end s.row.now s.tol (items_of s.b) l.loop-i.i l.loop-i.out v.3 (omega (arith, v.0, length-drop l.loop-i.i (items_of s.b)))
 
-pub roots-along-spec : {M : Type 1} → statement M
-roots-along-spec =
+pub roots_along_spec : {M : Type 1} → statement M
+roots_along_spec =
     tie.close
     (tie.spec
     invariant-loop

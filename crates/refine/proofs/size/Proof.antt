@@ -5,11 +5,11 @@ use lib.Ieee.{neg}
 use Rattle.refine.proofs.size.Statement.{statement}
 use Rattle.refine.proofs.size.Tie as tie
 
-returns : tie.Need-returns
-returns c = let x = c.before.args.x in ap (λ (b : Bool). cond b (neg x) x) (sym c.if1.true)
+returns : tie.Need-returns-then-x
+returns c = let x = c.args.x in ap (λ (b : Bool). cond b (neg x) x) (sym c.if-x.true)
 
-returns-2 : tie.Need-returns-2
-returns-2 c = let x = c.before.args.x in ap (λ (b : Bool). cond b (neg x) x) (sym c.if1.false)
+returns-2 : tie.Need-returns-else-x
+returns-2 c = let x = c.args.x in ap (λ (b : Bool). cond b (neg x) x) (sym c.if-x.false)
 
-pub size-spec : {M : Type 1} → statement M
-size-spec = tie.close (tie.spec returns returns-2)
+pub size_spec : {M : Type 1} → statement M
+size_spec = tie.close (tie.spec returns returns-2)

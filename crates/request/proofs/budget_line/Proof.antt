@@ -12,106 +12,106 @@ use borrow.Author.Rules.{rules}
 use Rattle.request.proofs.budget_line.Statement.{statement}
 use Rattle.request.proofs.budget_line.Tie as tie
 
-no-budget-requires : tie.Need-no-budget-requires
+no-budget-requires : tie.Need-no_budget-requires
 no-budget-requires c κs = tt
 
-returns : tie.Need-returns
-returns c = let s = c.before.before.before.before.args in c.no-budget.ensures ∙ budget-not s.text.now s.c s.key.now s.wanted (not-true s.wanted c.before.if1.true)
+returns : tie.Need-returns-then-not-wanted
+returns c = let s = c.args in c.no_budget.ensures ∙ budget-not s.text.now s.c s.key.now s.wanted (not-true s.wanted c.if-not-wanted.true-raw)
 
 starts-requires : tie.Need-starts-requires
-starts-requires c κs = c.before.before.before.requires
+starts-requires c κs = c.requires
 
-no-budget-requires-2 : tie.Need-no-budget-requires-2
+no-budget-requires-2 : tie.Need-no_budget-requires-then-not-starts
 no-budget-requires-2 c κs = tt
 
-returns-2 : tie.Need-returns-2
+returns-2 : tie.Need-returns-then-not-starts
 returns-2 c =
-    let t = c.before.before in
-    let s = t.before.before.before.before.args in
-    c.no-budget2.ensures ∙ budget-missing s.text.now s.c s.key.now s.wanted (not-false s.wanted t.before.if1.false) (sym t.starts.ensures ∙ not-true t.starts.result c.before.if2.true)
+    let t = c in
+    let s = t.args in
+    c.no_budget-then-not-starts.ensures ∙ budget-missing s.text.now s.c s.key.now s.wanted (not-false s.wanted t.if-not-wanted.false-raw) (sym t.starts.ensures ∙ not-true t.starts.result c.if-not-starts.true-raw)
 
-open-requires : tie.Need-open-requires
-open-requires c κs = c.before.before.before.before.before.requires
+open-requires : tie.Need-open-v-requires
+open-requires c κs = c.requires
 
-no-budget-requires-3 : tie.Need-no-budget-requires-3
+no-budget-requires-3 : tie.Need-no_budget-requires-then-v
 no-budget-requires-3 c κs = tt
 
 -- a key that is there
-there : (c : tie.Else2) → begins c.before.before.before.before.before.args.key.now (drop c.before.before.before.before.before.args.c.at c.before.before.before.before.before.args.text.now) ≡ true
-there c = sym c.before.starts.ensures ∙ not-false c.before.starts.result c.if2.false
+there : (c : tie.Else-not-starts) → begins c.args.key.now (drop c.args.c.at c.args.text.now) ≡ true
+there c = sym c.starts.ensures ∙ not-false c.starts.result c.if-not-starts.false-raw
 
-returns-3 : tie.Need-returns-3
+returns-3 : tie.Need-returns-then-v
 returns-3 c =
-    let o = c.before.before in
-    let v = o.open.result in
-    let t = o.before.before in
-    let s = t.before.before.before.before.args in
-    c.no-budget3.ensures ∙ budget-wanted s.text.now s.c s.key.now s.wanted (not-false s.wanted t.before.if1.false) v o.open.ensures (there o.before) (budget-bad s.text.now v c.before.if3.true)
+    let o = c in
+    let v = o.open-v.result in
+    let t = o in
+    let s = t.args in
+    c.no_budget-then-v.ensures ∙ budget-wanted s.text.now s.c s.key.now s.wanted (not-false s.wanted t.if-not-wanted.false-raw) v o.open-v.ensures (there o.before.before.before) (budget-bad s.text.now v c.if-v.true)
 
-part-end-requires : tie.Need-part-end-requires
+part-end-requires : tie.Need-part_end-end-requires
 part-end-requires c κs = tt
 
-sub-read-budget : tie.Need-overflow-sub-read-budget
+sub-read-budget : tie.Need-slice_bounds-read_budget-count
 sub-read-budget c = search rules
 
-part-read-budget-start : tie.Need-slice-bounds-read-budget-start
+part-read-budget-start : tie.Need-slice_bounds-read_budget-start
 part-read-budget-start c = search rules
 
 -- behind the key reading stands within the text
-stands : (c : tie.After-open) → c.open.result.at ≤ length c.before.before.before.before.before.before.args.text.now
+stands : (c : tie.After-open-v) → c.open-v.result.at ≤ length c.args.text.now
 stands c =
-    let s = c.before.before.before.before.before.before in
-    rw c.open.ensures (opened-within s.args.text.now s.args.key.now s.args.c s.requires)
+    let s = c in
+    rw c.open-v.ensures (opened-within s.args.text.now s.args.key.now s.args.c s.requires)
 
-part-read-budget-end : tie.Need-slice-bounds-read-budget-end
+part-read-budget-end : tie.Need-slice_bounds-read_budget-end
 part-read-budget-end c =
-    let o = c.before.before in
-    rw c.part-end.ensures (part-within o.before.before.before.before.before.before.args.text.now o.open.result.at (stands o))
+    let o = c in
+    rw c.part_end-end.ensures (part-within o.args.text.now o.open-v.result.at (stands o.before.before))
 
-read-budget-requires : tie.Need-read-budget-requires
+read-budget-requires : tie.Need-read_budget-requires
 read-budget-requires c κs = tt
 
-enum-known-budget : tie.Need-enum-known-budget
+enum-known-budget : tie.Need-enum_known-budget
 enum-known-budget c = search rules
 
 close-requires : tie.Need-close-requires
 close-requires c κs = tt
 
-enum_told : tie.Need-enum-told
+enum_told : tie.Need-enum_told-1
 enum_told c = search rules
 
 stopped-requires : tie.Need-stopped-requires
 stopped-requires c κs = tt
 
-no-budget-requires-4 : tie.Need-no-budget-requires-4
+no-budget-requires-4 : tie.Need-no_budget-requires-in-Nothing
 no-budget-requires-4 c κs = tt
 
-returns-4 : tie.Need-returns-4
+returns-4 : tie.Need-returns-in-Is
 returns-4 c =
-    let r = c.before.before.before.before in
-    let e = r.before.before in
-    let o = e.before.before in
-    let v = o.open.result in
-    let t = o.before.before in
-    let s = t.before.before.before.before.args in
+    let r = c in
+    let e = r in
+    let o = e in
+    let v = o.open-v.result in
+    let t = o in
+    let s = t.args in
     rw c.close.ensures
-    (budget-wanted s.text.now s.c s.key.now s.wanted (not-false s.wanted t.before.if1.false) v o.open.ensures (there o.before)
-    (budget-done s.text.now v e.before.if3.false e.part-end.result e.part-end.ensures _ refl _ (sym r.read-budget.ensures ∙ c.before.before.budget.given.1)))
+    (budget-wanted s.text.now s.c s.key.now s.wanted (not-false s.wanted t.if-not-wanted.false-raw) v o.open-v.ensures (there o.before.before.before.before.before.before.before)
+    (budget-done s.text.now v e.if-v.false e.part_end-end.result e.part_end-end.ensures _ refl _ (sym r.read_budget.ensures ∙ c.in-Is.is)))
 
-returns-5 : tie.Need-returns-5
+returns-5 : tie.Need-returns-in-Nothing
 returns-5 c =
-    let r = c.before.before.before.before in
-    let e = r.before.before in
-    let o = e.before.before in
-    let v = o.open.result in
-    let t = o.before.before in
-    let s = t.before.before.before.before.args in
-    c.no-budget4.ensures ∙ ap no_budget c.before.stopped.ensures
-    ∙ budget-wanted s.text.now s.c s.key.now s.wanted (not-false s.wanted t.before.if1.false) v o.open.ensures (there o.before)
-    (budget-refused s.text.now v e.before.if3.false e.part-end.result e.part-end.ensures _ refl (sym r.read-budget.ensures ∙ c.before.before.enum_told.given.1))
+    let r = c in
+    let e = r in
+    let o = e in
+    let v = o.open-v.result in
+    let t = o in
+    let s = t.args in
+    c.no_budget-in-Nothing.ensures ∙ ap no_budget c.stopped.ensures
+    ∙ budget-wanted s.text.now s.c s.key.now s.wanted (not-false s.wanted t.if-not-wanted.false-raw) v o.open-v.ensures (there o.before.before.before.before.before.before.before.before)
+    (budget-refused s.text.now v e.if-v.false e.part_end-end.result e.part_end-end.ensures _ refl (sym r.read_budget.ensures ∙ c.in-Nothing.is))
 
-pub budget-line-spec : {M : Type 1} → statement M
-budget-line-spec =
+pub budget_line_spec : {M : Type 1} → statement M
+budget_line_spec =
     tie.close
     (tie.spec
     no-budget-requires

@@ -10,92 +10,92 @@ use borrow.Author.Rules.{rules}
 use Rattle.request.proofs.float_line.Statement.{statement}
 use Rattle.request.proofs.float_line.Tie as tie
 
-no-float-requires : tie.Need-no-float-requires
+no-float-requires : tie.Need-no_float-requires
 no-float-requires c κs = tt
 
-returns : tie.Need-returns
-returns c = let s = c.before.before.before.before.args in c.no-float.ensures ∙ float-not s.text.now s.c s.key.now s.wanted (not-true s.wanted c.before.if1.true) s.tolerance
+returns : tie.Need-returns-then-not-wanted
+returns c = let s = c.args in c.no_float.ensures ∙ float-not s.text.now s.c s.key.now s.wanted (not-true s.wanted c.if-not-wanted.true-raw) s.tolerance
 
-open-requires : tie.Need-open-requires
-open-requires c κs = c.before.before.before.requires
+open-requires : tie.Need-open-v-requires
+open-requires c κs = c.requires
 
-no-float-requires-2 : tie.Need-no-float-requires-2
+no-float-requires-2 : tie.Need-no_float-requires-then-v
 no-float-requires-2 c κs = tt
 
-returns-2 : tie.Need-returns-2
+returns-2 : tie.Need-returns-then-v
 returns-2 c =
-    let o = c.before.before in
-    let v = o.open.result in
-    let s = o.before.before.before.before.args in
-    c.no-float2.ensures ∙ float-wanted s.text.now s.c s.key.now s.wanted (not-false s.wanted o.before.if1.false) v o.open.ensures s.tolerance (float-bad s.text.now v c.before.if2.true s.tolerance)
+    let o = c in
+    let v = o.open-v.result in
+    let s = o.args in
+    c.no_float-then-v.ensures ∙ float-wanted s.text.now s.c s.key.now s.wanted (not-false s.wanted o.if-not-wanted.false-raw) v o.open-v.ensures s.tolerance (float-bad s.text.now v c.if-v.true s.tolerance)
 
-part-end-requires : tie.Need-part-end-requires
+part-end-requires : tie.Need-part_end-end-requires
 part-end-requires c κs = tt
 
-sub-read-float : tie.Need-overflow-sub-read-float
+sub-read-float : tie.Need-slice_bounds-read_float-count
 sub-read-float c = search rules
 
-part-read-float-start : tie.Need-slice-bounds-read-float-start
+part-read-float-start : tie.Need-slice_bounds-read_float-start
 part-read-float-start c = search rules
 
 -- behind the key reading stands within the text
-stands : (c : tie.After-open) → c.open.result.at ≤ length c.before.before.before.before.args.text.now
+stands : (c : tie.After-open-v) → c.open-v.result.at ≤ length c.args.text.now
 stands c =
-    let s = c.before.before.before.before in
-    rw c.open.ensures (opened-within s.args.text.now s.args.key.now s.args.c s.requires)
+    let s = c in
+    rw c.open-v.ensures (opened-within s.args.text.now s.args.key.now s.args.c s.requires)
 
-part-read-float-end : tie.Need-slice-bounds-read-float-end
+part-read-float-end : tie.Need-slice_bounds-read_float-end
 part-read-float-end c =
-    let o = c.before.before in
-    rw c.part-end.ensures (part-within o.before.before.before.before.args.text.now o.open.result.at (stands o))
+    let o = c in
+    rw c.part_end-end.ensures (part-within o.args.text.now o.open-v.result.at (stands o.before.before))
 
-read-float-requires : tie.Need-read-float-requires
+read-float-requires : tie.Need-read_float-requires
 read-float-requires c κs = tt
 
 limited-requires : tie.Need-limited-requires
 limited-requires c κs = tt
 
-enum-known-float : tie.Need-enum-known-float
+enum-known-float : tie.Need-enum_known-float
 enum-known-float c = search rules
 
 close-requires : tie.Need-close-requires
 close-requires c κs = tt
 
-enum_told : tie.Need-enum-told
+enum_told : tie.Need-enum_told-1
 enum_told c = search rules
 
 stopped-requires : tie.Need-stopped-requires
 stopped-requires c κs = tt
 
-no-float-requires-3 : tie.Need-no-float-requires-3
+no-float-requires-3 : tie.Need-no_float-requires-in-Nothing
 no-float-requires-3 c κs = tt
 
-returns-3 : tie.Need-returns-3
+returns-3 : tie.Need-returns-in-Is
 returns-3 c =
-    let l = c.before.before.before.before in
-    let r = l.before in
-    let e = r.before.before in
-    let o = e.before.before in
-    let v = o.open.result in
-    let s = o.before.before.before.before.args in
+    let l = c in
+    let r = l in
+    let e = r in
+    let o = e in
+    let v = o.open-v.result in
+    let s = o.args in
     rw c.close.ensures
-    (float-wanted s.text.now s.c s.key.now s.wanted (not-false s.wanted o.before.if1.false) v o.open.ensures s.tolerance
-    (float-done s.text.now v e.before.if2.false e.part-end.result e.part-end.ensures _ refl s.tolerance _ (sym (l.limited.ensures ∙ ap (limited_of s.tolerance) r.read_float.ensures) ∙ c.before.before.float.given.1)))
+    (float-wanted s.text.now s.c s.key.now s.wanted (not-false s.wanted o.if-not-wanted.false-raw) v o.open-v.ensures s.tolerance
+    (float-done s.text.now v e.if-v.false e.part_end-end.result e.part_end-end.ensures _ refl s.tolerance _ (sym (l.limited.ensures ∙ ap (limited_of s.tolerance) r.read_float.ensures) ∙ c.in-Is.is)))
 
-returns-4 : tie.Need-returns-4
+returns-4 : tie.Need-returns-in-Nothing
 returns-4 c =
-    let l = c.before.before.before.before in
-    let r = l.before in
-    let e = r.before.before in
-    let o = e.before.before in
-    let v = o.open.result in
-    let s = o.before.before.before.before.args in
-    c.no-float3.ensures ∙ ap no_float c.before.stopped.ensures
-    ∙ float-wanted s.text.now s.c s.key.now s.wanted (not-false s.wanted o.before.if1.false) v o.open.ensures s.tolerance
-    (float-refused s.text.now v e.before.if2.false e.part-end.result e.part-end.ensures _ refl s.tolerance (sym (l.limited.ensures ∙ ap (limited_of s.tolerance) r.read_float.ensures) ∙ c.before.before.enum_told.given.1))
+    let l = c in
+    let r = l in
+    let e = r in
+    let o = e in
+    let v = o.open-v.result in
+    let s = o.args in
+    c.no_float-in-Nothing.ensures ∙ ap no_float c.stopped.ensures
+    ∙ float-wanted s.text.now s.c s.key.now s.wanted (not-false s.wanted o.if-not-wanted.false-raw) v o.open-v.ensures s.tolerance
+    (float-refused s.text.now v e.if-v.false e.part_end-end.result e.part_end-end.ensures _ refl s.tolerance (sym (l.limited.ensures ∙ ap (limited_of s.tolerance) r.read_float.ensures) ∙ c.in-Nothing.is))
 
-pub float-line-spec : {M : Type 1} → statement M
-float-line-spec =
+pub float_line_spec : {M : Type 1} → statement M
+float_line_spec =
     tie.close
     (tie.spec
     no-float-requires

@@ -9,25 +9,25 @@ use Rattle.request.proofs.is_limited.Tie as tie
 ends-requires : tie.Need-ends-requires
 ends-requires c κs = tt
 
-enum_told : tie.Need-enum-told
+enum_told : tie.Need-enum_told-1
 enum_told c = search rules
 
-is-finite-requires : tie.Need-is-finite-requires
+is-finite-requires : tie.Need-is_finite-requires
 is-finite-requires c κs = tt
 
-returns : tie.Need-returns
-returns c = let s = c.before.before.before.before.args in rw (not-true s.tolerance c.before.before.before.if1.true) (inside-yes s.x (sym c.before.before.ends.ensures ∙ c.enum_told.given.1))
+returns : tie.Need-returns-in-Open
+returns c = let s = c.args in rw (not-true s.tolerance c.if-not-tolerance.true-raw) (inside-yes s.x (sym c.ends.ensures ∙ c.in-Open.is))
 
-returns-2 : tie.Need-returns-2
-returns-2 c = let s = c.before.before.before.args in rw (not-true s.tolerance c.before.before.if1.true) (inside-no s.x _ c.before.ends.ensures c.match.keys2)
+returns-2 : tie.Need-returns-in_default
+returns-2 c = let s = c.args in rw (not-true s.tolerance c.if-not-tolerance.true-raw) (inside-no s.x _ c.ends.ensures c.in_default.in_default-own.keys2)
 
-returns-3 : tie.Need-returns-3
-returns-3 c = let s = c.before.before.before.args in rw (not-false s.tolerance c.before.before.if1.false, sym c.before.is_finite.ensures ∙ c.if2.true)
+returns-3 : tie.Need-returns-then-is_finite
+returns-3 c = let s = c.args in rw (not-false s.tolerance c.if-not-tolerance.false-raw, sym c.is_finite.ensures ∙ c.if-is_finite.true)
 
-returns-4 : tie.Need-returns-4
-returns-4 c = let s = c.before.before.before.args in rw (not-false s.tolerance c.before.before.if1.false, sym c.before.is_finite.ensures ∙ c.if2.false)
+returns-4 : tie.Need-returns-else-is_finite
+returns-4 c = let s = c.args in rw (not-false s.tolerance c.if-not-tolerance.false-raw, sym c.is_finite.ensures ∙ c.if-is_finite.false)
 
-pub is-limited-spec : {M : Type 1} → statement M
-is-limited-spec =
+pub is_limited_spec : {M : Type 1} → statement M
+is_limited_spec =
     tie.close
     (tie.spec ends-requires enum_told is-finite-requires returns returns-2 returns-3 returns-4)

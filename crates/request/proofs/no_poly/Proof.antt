@@ -8,5 +8,5 @@ zero-requires c κs = tt
 returns : tie.Need-returns
 returns c = rw c.zero.ensures
 
-pub no-poly-spec : {M : Type 1} → statement M
-no-poly-spec = tie.close (tie.spec zero-requires returns)
+pub no_poly_spec : {M : Type 1} → statement M
+no_poly_spec = tie.close (tie.spec zero-requires returns)

@@ -10,87 +10,87 @@ use borrow.Author.Rules.{rules}
 use Rattle.request.proofs.ratio_line.Statement.{statement}
 use Rattle.request.proofs.ratio_line.Tie as tie
 
-no-ratio-requires : tie.Need-no-ratio-requires
+no-ratio-requires : tie.Need-no_ratio-requires
 no-ratio-requires c κs = tt
 
-returns : tie.Need-returns
-returns c = let s = c.before.before.before.before.args in c.no-ratio.ensures ∙ ratio-not s.text.now s.c s.key.now s.wanted (not-true s.wanted c.before.if1.true)
+returns : tie.Need-returns-then-not-wanted
+returns c = let s = c.args in c.no_ratio.ensures ∙ ratio-not s.text.now s.c s.key.now s.wanted (not-true s.wanted c.if-not-wanted.true-raw)
 
-open-requires : tie.Need-open-requires
-open-requires c κs = c.before.before.before.requires
+open-requires : tie.Need-open-v-requires
+open-requires c κs = c.requires
 
-no-ratio-requires-2 : tie.Need-no-ratio-requires-2
+no-ratio-requires-2 : tie.Need-no_ratio-requires-then-v
 no-ratio-requires-2 c κs = tt
 
-returns-2 : tie.Need-returns-2
+returns-2 : tie.Need-returns-then-v
 returns-2 c =
-    let o = c.before.before in
-    let v = o.open.result in
-    let s = o.before.before.before.before.args in
-    c.no-ratio2.ensures ∙ ratio-wanted s.text.now s.c s.key.now s.wanted (not-false s.wanted o.before.if1.false) v o.open.ensures (ratio-bad s.text.now v c.before.if2.true)
+    let o = c in
+    let v = o.open-v.result in
+    let s = o.args in
+    c.no_ratio-then-v.ensures ∙ ratio-wanted s.text.now s.c s.key.now s.wanted (not-false s.wanted o.if-not-wanted.false-raw) v o.open-v.ensures (ratio-bad s.text.now v c.if-v.true)
 
-part-end-requires : tie.Need-part-end-requires
+part-end-requires : tie.Need-part_end-end-requires
 part-end-requires c κs = tt
 
-sub-read-ratio : tie.Need-overflow-sub-read-ratio
+sub-read-ratio : tie.Need-slice_bounds-read_ratio-count
 sub-read-ratio c = search rules
 
-part-read-ratio-start : tie.Need-slice-bounds-read-ratio-start
+part-read-ratio-start : tie.Need-slice_bounds-read_ratio-start
 part-read-ratio-start c = search rules
 
 -- behind the key reading stands within the text
-stands : (c : tie.After-open) → c.open.result.at ≤ length c.before.before.before.before.args.text.now
+stands : (c : tie.After-open-v) → c.open-v.result.at ≤ length c.args.text.now
 stands c =
-    let s = c.before.before.before.before in
-    rw c.open.ensures (opened-within s.args.text.now s.args.key.now s.args.c s.requires)
+    let s = c in
+    rw c.open-v.ensures (opened-within s.args.text.now s.args.key.now s.args.c s.requires)
 
-part-read-ratio-end : tie.Need-slice-bounds-read-ratio-end
+part-read-ratio-end : tie.Need-slice_bounds-read_ratio-end
 part-read-ratio-end c =
-    let o = c.before.before in
-    rw c.part-end.ensures (part-within o.before.before.before.before.args.text.now o.open.result.at (stands o))
+    let o = c in
+    rw c.part_end-end.ensures (part-within o.args.text.now o.open-v.result.at (stands o.before.before))
 
-read-ratio-requires : tie.Need-read-ratio-requires
+read-ratio-requires : tie.Need-read_ratio-requires
 read-ratio-requires c κs = tt
 
-enum-known-ratio : tie.Need-enum-known-ratio
+enum-known-ratio : tie.Need-enum_known-ratio
 enum-known-ratio c = search rules
 
 close-requires : tie.Need-close-requires
 close-requires c κs = tt
 
-enum_told : tie.Need-enum-told
+enum_told : tie.Need-enum_told-1
 enum_told c = search rules
 
 stopped-requires : tie.Need-stopped-requires
 stopped-requires c κs = tt
 
-no-ratio-requires-3 : tie.Need-no-ratio-requires-3
+no-ratio-requires-3 : tie.Need-no_ratio-requires-in-Refused
 no-ratio-requires-3 c κs = tt
 
-returns-3 : tie.Need-returns-3
+returns-3 : tie.Need-returns-in-Done
 returns-3 c =
-    let r = c.before.before.before.before in
-    let e = r.before.before in
-    let o = e.before.before in
-    let v = o.open.result in
-    let s = o.before.before.before.before.args in
+    let r = c in
+    let e = r in
+    let o = e in
+    let v = o.open-v.result in
+    let s = o.args in
     rw c.close.ensures
-    (ratio-wanted s.text.now s.c s.key.now s.wanted (not-false s.wanted o.before.if1.false) v o.open.ensures
-    (ratio-done s.text.now v e.before.if2.false e.part-end.result e.part-end.ensures _ refl _ (sym r.read-ratio.ensures.0 ∙ c.before.before.ratio.given.1)))
+    (ratio-wanted s.text.now s.c s.key.now s.wanted (not-false s.wanted o.if-not-wanted.false-raw) v o.open-v.ensures
+    (ratio-done s.text.now v e.if-v.false e.part_end-end.result e.part_end-end.ensures _ refl _ (sym r.read_ratio.ensures.0 ∙ c.in-Done.is)))
 
-returns-4 : tie.Need-returns-4
+returns-4 : tie.Need-returns-in-Refused
 returns-4 c =
-    let r = c.before.before.before.before in
-    let e = r.before.before in
-    let o = e.before.before in
-    let v = o.open.result in
-    let s = o.before.before.before.before.args in
-    c.no-ratio3.ensures ∙ ap no_ratio c.before.stopped.ensures
-    ∙ ratio-wanted s.text.now s.c s.key.now s.wanted (not-false s.wanted o.before.if1.false) v o.open.ensures
-    (ratio-refused s.text.now v e.before.if2.false e.part-end.result e.part-end.ensures _ refl (sym r.read-ratio.ensures.0 ∙ c.before.before.enum_told.given.1))
+    let r = c in
+    let e = r in
+    let o = e in
+    let v = o.open-v.result in
+    let s = o.args in
+    c.no_ratio-in-Refused.ensures ∙ ap no_ratio c.stopped.ensures
+    ∙ ratio-wanted s.text.now s.c s.key.now s.wanted (not-false s.wanted o.if-not-wanted.false-raw) v o.open-v.ensures
+    (ratio-refused s.text.now v e.if-v.false e.part_end-end.result e.part_end-end.ensures _ refl (sym r.read_ratio.ensures.0 ∙ c.in-Refused.is))
 
-pub ratio-line-spec : {M : Type 1} → statement M
-ratio-line-spec =
+pub ratio_line_spec : {M : Type 1} → statement M
+ratio_line_spec =
     tie.close
     (tie.spec
     no-ratio-requires

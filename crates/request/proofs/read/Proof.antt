@@ -8,27 +8,27 @@ use Rattle.request.proofs.Kept.{request-both}
 use Rattle.request.proofs.read.Statement.{statement}
 use Rattle.request.proofs.read.Tie as tie
 
-op-line-requires : tie.Need-op-line-requires
+op-line-requires : tie.Need-op_line-first-requires
 op-line-requires c κs = tt
 
 refused-requires : tie.Need-refused-requires
 refused-requires c κs = tt
 
-returns : tie.Need-returns
+returns : tie.Need-returns-then-text-gt-LONGEST
 returns c =
-    let o = c.before.before in
-    let s = o.before.before.args.text.now in
-    request-both s (c.refused.ensures ∙ ap (λ (l : OpLine). refused_for l.op (R.Malformed longest)) o.op-line.ensures ∙ request-long s c.before.if1.true)
+    let o = c in
+    let s = o.args.text.now in
+    request-both s (c.refused.ensures ∙ ap (λ (l : OpLine). refused_for l.op (R.Malformed longest)) o.op_line-first.ensures ∙ request-long s c.if-text-gt-LONGEST.true)
 
 rest-requires : tie.Need-rest-requires
 rest-requires c κs =
-    let o = c.before.before in
-    (c.before.if1.false, ap (λ (l : OpLine). l.op) o.op-line.ensures, ap (λ (l : OpLine). l.cursor) o.op-line.ensures)
+    let o = c in
+    (c.if-text-gt-LONGEST.false, ap (λ (l : OpLine). l.op) o.op_line-first.ensures, ap (λ (l : OpLine). l.cursor) o.op_line-first.ensures)
 
-returns-2 : tie.Need-returns-2
+returns-2 : tie.Need-returns
 returns-2 c =
-    let s = c.before.before.before.before.before.args.text.now in
-    request-both s (c.rest.ensures ∙ request-short s c.before.before.if1.false)
+    let s = c.args.text.now in
+    request-both s (c.rest.ensures ∙ request-short s c.if-text-gt-LONGEST.false)
 
 pub read_spec : {M : Type 1} → statement M
 read_spec = tie.close (tie.spec op-line-requires refused-requires returns rest-requires returns-2)

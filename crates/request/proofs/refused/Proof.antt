@@ -9,7 +9,7 @@ zero-requires-2 : tie.Need-zero-requires-2
 zero-requires-2 c κs = tt
 
 returns : tie.Need-returns
-returns c = rw (c.before.zero.ensures, c.zero2.ensures)
+returns c = rw (c.zero.ensures, c.zero-2.ensures)
 
-pub refused-spec : {M : Type 1} → statement M
-refused-spec = tie.close (tie.spec zero-requires zero-requires-2 returns)
+pub refused_spec : {M : Type 1} → statement M
+refused_spec = tie.close (tie.spec zero-requires zero-requires-2 returns)
