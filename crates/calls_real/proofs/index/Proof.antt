@@ -6,11 +6,11 @@ use Rattle.poly.specs.Door.{open_if}
 use Rattle.calls_real.proofs.index.Statement.{statement}
 use Rattle.calls_real.proofs.index.Tie as tie
 
-returns : tie.Need-returns
-returns c = sym (ap open_if (le-leb c.before.args.wrt 255 (omega arith)))
+returns : tie.Need-returns-then-wrt-le255
+returns c = sym (ap open_if (le-leb c.args.wrt 255 (omega arith)))
 
-returns-2 : tie.Need-returns-2
-returns-2 c = sym (ap open_if (lt-leb c.before.args.wrt 255 (omega arith)))
+returns-2 : tie.Need-returns-else-wrt-le255
+returns-2 c = sym (ap open_if (lt-leb c.args.wrt 255 (omega arith)))
 
-pub index-spec : {M : Type 1} → statement M
-index-spec = tie.close (tie.spec returns returns-2)
+pub index_spec : {M : Type 1} → statement M
+index_spec = tie.close (tie.spec returns returns-2)

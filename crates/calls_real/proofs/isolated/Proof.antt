@@ -11,7 +11,7 @@ use borrow.Author.Rules.{rules}
 use Rattle.calls_real.proofs.isolated.Statement.{statement}
 use Rattle.calls_real.proofs.isolated.Tie as tie
 
-from-parts-requires : tie.Need-from-parts-requires
+from-parts-requires : tie.Need-from_parts-a-requires
 from-parts-requires c κs = tt
 
 gate-requires : tie.Need-gate-requires
@@ -20,39 +20,39 @@ gate-requires c κs = tt
 limits-requires : tie.Need-limits-requires
 limits-requires c κs = tt
 
-both-requires : tie.Need-both-requires
+both-requires : tie.Need-both-d-requires
 both-requires c κs = tt
 
-enum_told : tie.Need-enum-told
+enum_told : tie.Need-enum_told-1
 enum_told c = search rules
 
-isolate-real-roots-requires : tie.Need-isolate-real-roots-requires
+isolate-real-roots-requires : tie.Need-isolate_real_roots-requires
 isolate-real-roots-requires c κs = tt
 
 reason-requires : tie.Need-reason-requires
 reason-requires c κs = tt
 
-gate : (c : tie.After-both) → let s = c.before.before.before.before.args in c.both.result ≡ both (gate_of c.before.before.before.from_parts.result.outcome) (limits_of s.lo s.hi s.tol)
-gate c = c.both.ensures ∙ ap₂ both c.before.before.gate.ensures c.before.limits.ensures
+gate : (c : tie.After-both-d) → let s = c.args in c.both-d.result ≡ both (gate_of c.from_parts-a.result.outcome) (limits_of s.lo s.hi s.tol)
+gate c = c.both-d.ensures ∙ ap₂ both c.gate.ensures c.limits.ensures
 
-returns : tie.Need-returns
+returns : tie.Need-returns-in-Open
 returns c =
-    let g = c.before.before.before in
-    let p = g.before.before.before in
-    let s = p.before.args in
-    open-entered g.both.result _ (gate g) c.before.enum_told.given.1 refused_for _ c.isolate-real-roots.result c.isolate-real-roots.ensures.0
-    ∙ ap (λ (a : Answer). isolated_with a s.lo s.hi s.tol) p.from_parts.ensures.0
+    let g = c in
+    let p = g in
+    let s = p.args in
+    open-entered g.both-d.result _ (gate g.before.before.before) c.in-Open.is refused_for _ c.isolate_real_roots.result c.isolate_real_roots.ensures.0
+    ∙ ap (λ (a : Answer). isolated_with a s.lo s.hi s.tol) p.from_parts-a.ensures.0
 
-returns-2 : tie.Need-returns-2
+returns-2 : tie.Need-returns-in_default
 returns-2 c =
-    let g = c.before.before in
-    let p = g.before.before.before in
-    let s = p.before.args in
-    shut-entered g.both.result _ (gate g) c.before.match.keys2 c.reason.result c.reason.ensures refused_for _ _ refl
-    ∙ ap (λ (a : Answer). isolated_with a s.lo s.hi s.tol) p.from_parts.ensures.0
+    let g = c in
+    let p = g in
+    let s = p.args in
+    shut-entered g.both-d.result _ (gate g.before.before) c.in_default.in_default-own.keys2 c.reason.result c.reason.ensures refused_for _ _ refl
+    ∙ ap (λ (a : Answer). isolated_with a s.lo s.hi s.tol) p.from_parts-a.ensures.0
 
-pub isolated-spec : {M : Type 1} → statement M
-isolated-spec =
+pub isolated_spec : {M : Type 1} → statement M
+isolated_spec =
     tie.close
     (tie.spec
     from-parts-requires

@@ -6,7 +6,7 @@ use borrow.Author.Rules.{rules}
 use Rattle.calls_real.proofs.kanrosuye_count.Statement.{statement}
 use Rattle.calls_real.proofs.kanrosuye_count.Tie as tie
 
-counted-requires : tie.Need-counted-requires
+counted-requires : tie.Need-counted-c-requires
 counted-requires c κs = tt
 
 number-requires : tie.Need-number-requires
@@ -14,9 +14,9 @@ number-requires c κs = tt
 
 returns : tie.Need-returns
 returns c =
-    let t = c.before in
-    let s = t.before.args in
-    told-number (λ (a : Count). a.outcome) t.counted.result (counted_of s.an.now s.ad.now s.lo s.hi) t.counted.ensures (λ (a : Count). a.count) c.number.result c.number.ensures
+    let t = c in
+    let s = t.args in
+    told-number (λ (a : Count). a.outcome) t.counted-c.result (counted_of s.an.now s.ad.now s.lo s.hi) t.counted-c.ensures (λ (a : Count). a.count) c.number.result c.number.ensures
 
-pub kanrosuye-count-spec : {M : Type 1} → statement M
-kanrosuye-count-spec = tie.close (tie.spec counted-requires number-requires returns)
+pub kanrosuye_count_spec : {M : Type 1} → statement M
+kanrosuye_count_spec = tie.close (tie.spec counted-requires number-requires returns)

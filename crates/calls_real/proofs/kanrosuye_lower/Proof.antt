@@ -9,10 +9,10 @@ use borrow.Author.Rules.{rules}
 use Rattle.calls_real.proofs.kanrosuye_lower.Statement.{statement}
 use Rattle.calls_real.proofs.kanrosuye_lower.Tie as tie
 
-from-lowered-requires : tie.Need-from-lowered-requires
+from-lowered-requires : tie.Need-from_lowered-a-requires
 from-lowered-requires c κs = tt
 
-enum_told : tie.Need-enum-told
+enum_told : tie.Need-enum_told-1
 enum_told c = search rules
 
 nums-requires : tie.Need-nums-requires
@@ -24,10 +24,10 @@ dens-requires c κs = tt
 number-requires : tie.Need-number-requires
 number-requires c κs = tt
 
-enum-known-o : tie.Need-enum-known-o
+enum-known-o : tie.Need-enum_known-o
 enum-known-o c = search rules
 
-number-requires-2 : tie.Need-number-requires-2
+number-requires-2 : tie.Need-number-requires-in-Refused
 number-requires-2 c κs = tt
 
 -- what the model answers
@@ -37,36 +37,36 @@ model s = lower_of s.args.wrt s.args.text.now
 abbrev out : Answer → Outcome
 out a = a.outcome
 
-returns : tie.Need-returns
+returns : tie.Need-returns-in-Done
 returns c =
-    let told = c.before.before.before in
-    let m = told.before.before in
-    let s = m.before.before in
-    let t = m.from-lowered.result in
-    let e = m.from-lowered.ensures.0 in
-    let h = told.enum_told.given.1 in (
-      told-number out t (model s) e (λ (a : Answer). a.steps) c.number.result c.number.ensures,
+    let told = c in
+    let m = told in
+    let s = m in
+    let t = m.from_lowered-a.result in
+    let e = m.from_lowered-a.ensures.0 in
+    let h = told.in-Done.is in (
+      told-number out t (model s.before.before.before.before.before.before.before.before) e (λ (a : Answer). a.steps) c.number.result c.number.ensures,
       (
-        wrote out t (model s) e (λ (a : Answer). nums_of a.poly) s.args.nums.now c.before.before.nums.result h c.before.before.nums.ensures,
-        wrote out t (model s) e (λ (a : Answer). dens_of a.poly) s.args.dens.now c.before.dens.result h c.before.dens.ensures,
+        wrote out t (model s.before.before.before.before.before.before.before.before) e (λ (a : Answer). nums_of a.poly) s.args.nums.now c.nums.result h c.nums.ensures,
+        wrote out t (model s.before.before.before.before.before.before.before.before) e (λ (a : Answer). dens_of a.poly) s.args.dens.now c.dens.result h c.dens.ensures,
       ),
     )
 
-returns-2 : tie.Need-returns-2
+returns-2 : tie.Need-returns-in-Refused
 returns-2 c =
-    let k = c.before.before in
-    let m = k.before.before in
-    let s = m.before.before in
-    let t = m.from-lowered.result in
-    let e = m.from-lowered.ensures.0 in
-    let w = k.o.given.0.0 in
-    let h = k.o.given.1 in (
-      told-number out t (model s) e (λ (a : Answer). a.steps) c.number2.result (c.number2.ensures ∙ ap (λ (o : Outcome). number_told o t.steps) (sym h)),
-      (kept out t (model s) e s.args.nums.now (nums_of (model s).poly) w h, kept out t (model s) e s.args.dens.now (dens_of (model s).poly) w h),
+    let k = c in
+    let m = k in
+    let s = m in
+    let t = m.from_lowered-a.result in
+    let e = m.from_lowered-a.ensures.0 in
+    let w = k.in-Refused.why in
+    let h = k.in-Refused.is in (
+      told-number out t (model s.before.before.before.before) e (λ (a : Answer). a.steps) c.number-in-Refused.result (c.number-in-Refused.ensures ∙ ap (λ (o : Outcome). number_told o t.steps) (sym h)),
+      (kept out t (model s.before.before.before.before) e s.args.nums.now (nums_of (model s.before.before.before.before).poly) w h, kept out t (model s.before.before.before.before) e s.args.dens.now (dens_of (model s.before.before.before.before).poly) w h),
     )
 
-pub kanrosuye-lower-spec : {M : Type 1} → statement M
-kanrosuye-lower-spec =
+pub kanrosuye_lower_spec : {M : Type 1} → statement M
+kanrosuye_lower_spec =
     tie.close
     (tie.spec
     from-lowered-requires

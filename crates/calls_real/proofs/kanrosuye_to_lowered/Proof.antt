@@ -14,7 +14,7 @@ use borrow.Author.Rules.{rules}
 use Rattle.calls_real.proofs.kanrosuye_to_lowered.Statement.{statement}
 use Rattle.calls_real.proofs.kanrosuye_to_lowered.Tie as tie
 
-from-parts-requires : tie.Need-from-parts-requires
+from-parts-requires : tie.Need-from_parts-a-requires
 from-parts-requires c κs = tt
 
 gate-requires : tie.Need-gate-requires
@@ -23,13 +23,13 @@ gate-requires c κs = tt
 index-requires : tie.Need-index-requires
 index-requires c κs = tt
 
-both-requires : tie.Need-both-requires
+both-requires : tie.Need-both-d-requires
 both-requires c κs = tt
 
-enum_told : tie.Need-enum-told
+enum_told : tie.Need-enum_told-1
 enum_told c = search rules
 
-to-lowered-requires : tie.Need-to-lowered-requires
+to-lowered-requires : tie.Need-to_lowered-w-requires
 to-lowered-requires c κs = tt
 
 number-requires : tie.Need-number-requires
@@ -38,10 +38,10 @@ number-requires c κs = tt
 reason-requires : tie.Need-reason-requires
 reason-requires c κs = tt
 
-number-requires-2 : tie.Need-number-requires-2
+number-requires-2 : tie.Need-number-requires-in_default
 number-requires-2 c κs = tt
 
-same_length : tie.Need-same-length
+same_length : tie.Need-shape_of-out
 same_length c = search rules
 
 abbrev out : Written → Outcome
@@ -51,39 +51,39 @@ abbrev len : Written → ℕ
 len w = w.len
 
 -- the door that was found is the model's
-gate : (c : tie.After-both) → let p = c.before.before.before in c.both.result ≡ writer_door p.from_parts.result p.before.before.args.wrt
-gate c = c.both.ensures ∙ ap₂ both c.before.before.gate.ensures c.before.index.ensures
+gate : (c : tie.After-both-d) → let p = c in c.both-d.result ≡ writer_door p.from_parts-a.result p.args.wrt
+gate c = c.both-d.ensures ∙ ap₂ both c.gate.ensures c.index.ensures
 
-returns : tie.Need-returns
+returns : tie.Need-returns-in-Open
 returns c =
-    let t = c.before.before.before in
-    let h = t.before.before.enum_told.given.1 in
-    let g = t.before.before.before.before in
-    let p = g.before.before.before in
-    let s = p.before.before.args in
+    let t = c in
+    let h = t.in-Open.is in
+    let g = t in
+    let p = g in
+    let s = p.args in
     let page = s.out.now in (
-      told-number out t.to-lowered.result (written_of s.an.now s.ad.now s.wrt page)
-          (open-entered g.both.result _ (gate g) h H.refused_for _ t.to-lowered.result t.to-lowered.ensures.0 ∙ ap (λ (a : Answer). written_with a s.wrt page) p.from_parts.ensures.0)
+      told-number out t.to_lowered-w.result (written_of s.an.now s.ad.now s.wrt page)
+          (open-entered g.both-d.result _ (gate g.before.before.before.before.before.before.before) h H.refused_for _ t.to_lowered-w.result t.to_lowered-w.ensures.0 ∙ ap (λ (a : Answer). written_with a s.wrt page) p.from_parts-a.ensures.0)
           len c.number.result c.number.ensures,
-      open-entered g.both.result _ (gate g) h (λ why. page) _ _ t.to-lowered.ensures.1.0 ∙ ap (λ (a : Answer). page_with a s.wrt page) p.from_parts.ensures.0,
+      open-entered g.both-d.result _ (gate g.before.before.before.before.before.before.before) h (λ why. page) _ _ t.to_lowered-w.ensures.1.0 ∙ ap (λ (a : Answer). page_with a s.wrt page) p.from_parts-a.ensures.0,
     )
 
-returns-2 : tie.Need-returns-2
+returns-2 : tie.Need-returns-in_default
 returns-2 c =
-    let r = c.before in
-    let k = r.before.match.keys2 in
-    let g = r.before.before in
-    let p = g.before.before.before in
-    let s = p.before.before.args in
+    let r = c in
+    let k = r.in_default.in_default-own.keys2 in
+    let g = r in
+    let p = g in
+    let s = p.args in
     let page = s.out.now in (
       told-number out (H.refused_for r.reason.result) (written_of s.an.now s.ad.now s.wrt page)
-          (shut-entered g.both.result _ (gate g) k r.reason.result r.reason.ensures H.refused_for _ _ refl ∙ ap (λ (a : Answer). written_with a s.wrt page) p.from_parts.ensures.0)
-          len c.number2.result c.number2.ensures,
-      shut-entered g.both.result _ (gate g) k r.reason.result r.reason.ensures (λ why. page) _ page refl ∙ ap (λ (a : Answer). page_with a s.wrt page) p.from_parts.ensures.0,
+          (shut-entered g.both-d.result _ (gate g.before.before.before) k r.reason.result r.reason.ensures H.refused_for _ _ refl ∙ ap (λ (a : Answer). written_with a s.wrt page) p.from_parts-a.ensures.0)
+          len c.number-in_default.result c.number-in_default.ensures,
+      shut-entered g.both-d.result _ (gate g.before.before.before) k r.reason.result r.reason.ensures (λ why. page) _ page refl ∙ ap (λ (a : Answer). page_with a s.wrt page) p.from_parts-a.ensures.0,
     )
 
-pub kanrosuye-to-lowered-spec : {M : Type 1} → statement M
-kanrosuye-to-lowered-spec =
+pub kanrosuye_to_lowered_spec : {M : Type 1} → statement M
+kanrosuye_to_lowered_spec =
     tie.close
     (tie.spec
     from-parts-requires

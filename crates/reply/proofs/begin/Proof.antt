@@ -6,53 +6,34 @@ use Rattle.reply.specs.Reply.{begin_text}
 use Rattle.reply.proofs.begin.Statement.{statement}
 use Rattle.reply.proofs.begin.Tie as tie
 
-slice-aggregate-write-bytes : tie.Need-slice-aggregate-write-bytes
-slice-aggregate-write-bytes c = search rules
-
-write-bytes-requires : tie.Need-write-bytes-requires
+write-bytes-requires : tie.Need-write_bytes-a-requires
 write-bytes-requires c κs = tt
 
-write-name-requires : tie.Need-write-name-requires
+write-name-requires : tie.Need-write_name-b-requires
 write-name-requires c κs = tt
 
-slice-aggregate-write-bytes-2 : tie.Need-slice-aggregate-write-bytes-2
-slice-aggregate-write-bytes-2 c = search rules
-
-write-bytes-requires-2 : tie.Need-write-bytes-requires-2
+write-bytes-requires-2 : tie.Need-write_bytes-c-requires
 write-bytes-requires-2 c κs = tt
 
-write-decimal-requires : tie.Need-write-decimal-requires
+write-decimal-requires : tie.Need-write_decimal-d-requires
 write-decimal-requires c κs = tt
 
-slice-aggregate-write-bytes-3 : tie.Need-slice-aggregate-write-bytes-3
-slice-aggregate-write-bytes-3 c = search rules
-
-write-bytes-requires-3 : tie.Need-write-bytes-requires-3
+write-bytes-requires-3 : tie.Need-write_bytes-requires
 write-bytes-requires-3 c κs = tt
 
-same_length : tie.Need-same-length
+same_length : tie.Need-shape_of-out
 same_length c = search rules
 
 returns : tie.Need-returns
 unfolding begin_text
 returns c =
     lays-as _ _ _ _ refl (
-    lays-then _ _ _ _ c.before.before.before.before.before.before.before.before.before.before.before.before.before.before.before.before.before.before.before.before.write_bytes.ensures (
-    lays-then _ _ _ _ c.before.before.before.before.before.before.before.before.before.before.before.before.before.before.before.before.write-name.ensures (
-    lays-then _ _ _ _ c.before.before.before.before.before.before.before.before.before.before.before.write-bytes2.ensures (
-    lays-then _ _ _ _ c.before.before.before.before.before.before.before.write-decimal.ensures c.before.before.write-bytes3.ensures))))
+    lays-then _ _ _ _ c.write_bytes-a.ensures (
+    lays-then _ _ _ _ c.write_name-b.ensures (
+    lays-then _ _ _ _ c.write_bytes-c.ensures (
+    lays-then _ _ _ _ c.write_decimal-d.ensures c.write_bytes.ensures))))
 
-pub begin-spec : {M : Type 1} → statement M
-begin-spec =
+pub begin_spec : {M : Type 1} → statement M
+begin_spec =
     tie.close
-    (tie.spec
-    slice-aggregate-write-bytes
-    write-bytes-requires
-    write-name-requires
-    slice-aggregate-write-bytes-2
-    write-bytes-requires-2
-    write-decimal-requires
-    slice-aggregate-write-bytes-3
-    write-bytes-requires-3
-    same_length
-    returns)
+    (tie.spec write-bytes-requires write-name-requires write-bytes-requires-2 write-decimal-requires write-bytes-requires-3 same_length returns)

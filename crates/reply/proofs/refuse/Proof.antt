@@ -11,19 +11,19 @@ use Rattle.reply.proofs.refuse.Tie as tie
 number-requires : tie.Need-number-requires
 number-requires c κs = tt
 
-begin-requires : tie.Need-begin-requires
+begin-requires : tie.Need-begin-a-requires
 begin-requires c κs = tt
 
 end-requires : tie.Need-end-requires
 end-requires c κs = tt
 
-same_length : tie.Need-same-length
+same_length : tie.Need-shape_of-out
 same_length c = search rules
 
 returns : tie.Need-returns
 returns c =
-    let s = c.before.before.before.before.before.before.before.before.before.before.args in
-    lays-as _ _ _ _ (ap (λ n. begin_text s.op n ++ end_text s.op s.steps) c.before.before.before.before.before.before.before.before.number.ensures ∙ no_part s.op s.steps s.why) (lays-then _ _ _ _ c.before.before.before.before.before.before.begin.ensures c.before.before.end.ensures)
+    let s = c.args in
+    lays-as _ _ _ _ (ap (λ n. begin_text s.op n ++ end_text s.op s.steps) c.number.ensures ∙ no_part s.op s.steps s.why) (lays-then _ _ _ _ c.begin-a.ensures c.end.ensures)
 
-pub refuse-spec : {M : Type 1} → statement M
-refuse-spec = tie.close (tie.spec number-requires begin-requires end-requires same_length returns)
+pub refuse_spec : {M : Type 1} → statement M
+refuse_spec = tie.close (tie.spec number-requires begin-requires end-requires same_length returns)

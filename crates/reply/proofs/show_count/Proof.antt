@@ -10,49 +10,48 @@ use Rattle.reply.proofs.Sizes.{shown-fits}
 use Rattle.reply.proofs.show_count.Statement.{statement}
 use Rattle.reply.proofs.show_count.Tie as tie
 
-enum_told : tie.Need-enum-told
+enum_told : tie.Need-enum_told-1
 enum_told c = search rules
 
-begin-requires : tie.Need-begin-requires
+begin-requires : tie.Need-begin-first-requires
 begin-requires c κs = tt
 
-write-decimal-requires : tie.Need-write-decimal-requires
+write-decimal-requires : tie.Need-write_decimal-behind-requires
 write-decimal-requires c κs = tt
 
 end-requires : tie.Need-end-requires
 end-requires c κs = tt
 
-enum-known-o : tie.Need-enum-known-o
+enum-known-o : tie.Need-enum_known-o
 enum-known-o c = search rules
 
 refuse-requires : tie.Need-refuse-requires
 refuse-requires c κs = tt
 
-same_length : tie.Need-same-length
+same_length : tie.Need-shape_of-out-in-Done
 same_length c = search rules
 
-returns : tie.Need-returns
+returns : tie.Need-returns-in-Done
 returns c =
-    let s = c.before.before.before.before.before.before.before.before.before.before.before.before.before.before.before.args in
+    let s = c.args in
     let x = s.c in
     let e =
-    shows-one s.op 0 x.outcome (decimal_of x.count) [] s.at s.out.now c.before.before.before.before.before.before.before.before.before.before.before.before.enum_told.given.1
-    (lays-then _ _ _ _ c.before.before.before.before.before.before.before.before.before.before.begin.ensures (lays-then _ _ _ _ c.before.before.before.before.before.before.write-decimal.ensures c.before.before.end.ensures)) in
+    shows-one s.op 0 x.outcome (decimal_of x.count) [] s.at s.out.now c.in-Done.is
+    (lays-then _ _ _ _ c.begin-first.ensures (lays-then _ _ _ _ c.write_decimal-behind.ensures c.end.ensures)) in
     (e.0, (e.1, shown-fits s.op x.outcome 0 (decimal_of x.count) [] (omega (arith, decimal-length x.count))))
 
-same-length-2 : tie.Need-same-length-2
+same-length-2 : tie.Need-shape_of-out-in-Refused
 same-length-2 c = search rules
 
-returns-2 : tie.Need-returns-2
+returns-2 : tie.Need-returns-in-Refused
 returns-2 c =
-    let s = c.before.before.before.before.before.before.before.before.args in
+    let s = c.args in
     let x = s.c in
-    let w = c.before.before.before.before.before.o.given in
-    let e = shows-refused s.op 0 x.outcome (decimal_of x.count) [] s.at s.out.now w.0.0 w.1 c.before.before.refuse.ensures in
+    let e = shows-refused s.op 0 x.outcome (decimal_of x.count) [] s.at s.out.now c.in-Refused.why c.in-Refused.is c.refuse.ensures in
     (e.0, (e.1, shown-fits s.op x.outcome 0 (decimal_of x.count) [] (omega (arith, decimal-length x.count))))
 
-pub show-count-spec : {M : Type 1} → statement M
-show-count-spec =
+pub show_count_spec : {M : Type 1} → statement M
+show_count_spec =
     tie.close
     (tie.spec
     enum_told

@@ -10,53 +10,52 @@ use Rattle.reply.proofs.Factors.{factored-fits}
 use Rattle.reply.proofs.show_factors.Statement.{statement}
 use Rattle.reply.proofs.show_factors.Tie as tie
 
-enum_told : tie.Need-enum-told
+enum_told : tie.Need-enum_told-1
 enum_told c = search rules
 
-begin-requires : tie.Need-begin-requires
+begin-requires : tie.Need-begin-first-requires
 begin-requires c κs = tt
 
-write-ratio-requires : tie.Need-write-ratio-requires
+write-ratio-requires : tie.Need-write_ratio-behind-requires
 write-ratio-requires c κs = tt
 
-write-pieces-requires : tie.Need-write-pieces-requires
+write-pieces-requires : tie.Need-write_pieces-last-requires
 write-pieces-requires c κs = tt
 
 end-requires : tie.Need-end-requires
 end-requires c κs = tt
 
-enum-known-o : tie.Need-enum-known-o
+enum-known-o : tie.Need-enum_known-o
 enum-known-o c = search rules
 
 refuse-requires : tie.Need-refuse-requires
 refuse-requires c κs = tt
 
-same_length : tie.Need-same-length
+same_length : tie.Need-shape_of-out-in-Done
 same_length c = search rules
 
-returns : tie.Need-returns
+returns : tie.Need-returns-in-Done
 returns c =
-    let s = c.before.before.before.before.before.before.before.before.before.before.before.before.before.before.before.before.before.before.before.before.args in
+    let s = c.args in
     let x = s.f in
     let e =
-    shows-one s.op 0 x.outcome (ratio_text x.content ++ pieces_text (factors_in x)) [] s.at s.out.now c.before.before.before.before.before.before.before.before.before.before.before.before.before.before.before.before.before.enum_told.given.1
-    (lays-then _ _ _ _ c.before.before.before.before.before.before.before.before.before.before.before.before.before.before.before.begin.ensures (
-    lays-then _ _ _ _ (lays-then _ _ _ _ c.before.before.before.before.before.before.before.before.before.before.before.write-ratio.ensures c.before.before.before.before.before.before.write-pieces.ensures) c.before.before.end.ensures)) in
+    shows-one s.op 0 x.outcome (ratio_text x.content ++ pieces_text (factors_in x)) [] s.at s.out.now c.in-Done.is
+    (lays-then _ _ _ _ c.begin-first.ensures (
+    lays-then _ _ _ _ (lays-then _ _ _ _ c.write_ratio-behind.ensures c.write_pieces-last.ensures) c.end.ensures)) in
     (e.0, (e.1, factored-fits s.op x))
 
-same-length-2 : tie.Need-same-length-2
+same-length-2 : tie.Need-shape_of-out-in-Refused
 same-length-2 c = search rules
 
-returns-2 : tie.Need-returns-2
+returns-2 : tie.Need-returns-in-Refused
 returns-2 c =
-    let s = c.before.before.before.before.before.before.before.before.args in
+    let s = c.args in
     let x = s.f in
-    let w = c.before.before.before.before.before.o.given in
-    let e = shows-refused s.op 0 x.outcome (ratio_text x.content ++ pieces_text (factors_in x)) [] s.at s.out.now w.0.0 w.1 c.before.before.refuse.ensures in
+    let e = shows-refused s.op 0 x.outcome (ratio_text x.content ++ pieces_text (factors_in x)) [] s.at s.out.now c.in-Refused.why c.in-Refused.is c.refuse.ensures in
     (e.0, (e.1, factored-fits s.op x))
 
-pub show-factors-spec : {M : Type 1} → statement M
-show-factors-spec =
+pub show_factors_spec : {M : Type 1} → statement M
+show_factors_spec =
     tie.close
     (tie.spec
     enum_told

@@ -7,11 +7,11 @@ use Rattle.reply.proofs.show_refusal.Tie as tie
 refuse-requires : tie.Need-refuse-requires
 refuse-requires c κs = tt
 
-same_length : tie.Need-same-length
+same_length : tie.Need-shape_of-out
 same_length c = search rules
 
 returns : tie.Need-returns
-returns c = let e = c.before.before.refuse.ensures in (e.0, (e.1, refused-fits c.before.before.before.before.before.args.op c.before.before.before.before.before.args.why 0))
+returns c = let e = c.refuse.ensures in (e.0, (e.1, refused-fits c.args.op c.args.why 0))
 
-pub show-refusal-spec : {M : Type 1} → statement M
-show-refusal-spec = tie.close (tie.spec refuse-requires same_length returns)
+pub show_refusal_spec : {M : Type 1} → statement M
+show_refusal_spec = tie.close (tie.spec refuse-requires same_length returns)

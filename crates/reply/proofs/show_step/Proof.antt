@@ -11,48 +11,47 @@ use Rattle.reply.proofs.Sizes.{value-fits}
 use Rattle.reply.proofs.show_step.Statement.{statement}
 use Rattle.reply.proofs.show_step.Tie as tie
 
-enum-known-s : tie.Need-enum-known-s
+enum-known-s : tie.Need-enum_known-s
 enum-known-s c = search rules
 
-begin-requires : tie.Need-begin-requires
+begin-requires : tie.Need-begin-first-requires
 begin-requires c κs = tt
 
-write-ratio-requires : tie.Need-write-ratio-requires
+write-ratio-requires : tie.Need-write_ratio-behind-requires
 write-ratio-requires c κs = tt
 
 end-requires : tie.Need-end-requires
 end-requires c κs = tt
 
-enum-known-s-2 : tie.Need-enum-known-s-2
+enum-known-s-2 : tie.Need-enum_known-s-in-Refused-1
 enum-known-s-2 c = search rules
 
 refuse-requires : tie.Need-refuse-requires
 refuse-requires c κs = tt
 
-same_length : tie.Need-same-length
+same_length : tie.Need-shape_of-out-in-Done
 same_length c = search rules
 
-returns : tie.Need-returns
+returns : tie.Need-returns-in-Done
 returns c =
-    let s = c.before.before.before.before.before.before.before.before.before.before.before.before.before.before.before.before.args in
-    let w = c.before.before.before.before.before.before.before.before.before.before.before.before.before.s.given in
+    let s = c.args in
     let e =
-    shows-one s.op 0 O.Done (ratio_text w.0.0) [] s.at s.out.now refl
-    (lays-then _ _ _ _ c.before.before.before.before.before.before.before.before.before.before.begin.ensures (lays-then _ _ _ _ c.before.before.before.before.before.before.write-ratio.ensures c.before.before.end.ensures)) in
-    let f = lays-as _ _ _ _ (sym (ap (value_text s.op) w.1)) e in
+    shows-one s.op 0 O.Done (ratio_text c.in-Done.v) [] s.at s.out.now refl
+    (lays-then _ _ _ _ c.begin-first.ensures (lays-then _ _ _ _ c.write_ratio-behind.ensures c.end.ensures)) in
+    let f = lays-as _ _ _ _ (sym (ap (value_text s.op) c.in-Done.is)) e in
     (f.0, (f.1, value-fits s.op s.s))
 
-same-length-2 : tie.Need-same-length-2
+same-length-2 : tie.Need-shape_of-out-in-Refused
 same-length-2 c = search rules
 
-returns-2 : tie.Need-returns-2
+returns-2 : tie.Need-returns-in-Refused
 returns-2 c =
-    let s = c.before.before.before.before.before.before.before.before.args in
-    let f = lays-as _ _ _ _ (sym (ap (value_text s.op) c.before.before.before.before.before.s2.given.1)) c.before.before.refuse.ensures in
+    let s = c.args in
+    let f = lays-as _ _ _ _ (sym (ap (value_text s.op) c.in-Refused.is)) c.refuse.ensures in
     (f.0, (f.1, value-fits s.op s.s))
 
-pub show-step-spec : {M : Type 1} → statement M
-show-step-spec =
+pub show_step_spec : {M : Type 1} → statement M
+show_step_spec =
     tie.close
     (tie.spec
     enum-known-s

@@ -12,62 +12,62 @@ use Rattle.reply.proofs.Parts.{pieces_none, pieces_more}
 use Rattle.reply.proofs.write_pieces.Statement.{statement}
 use Rattle.reply.proofs.write_pieces.Tie as tie
 
-abbrev invariant-loop : tie.invariant-loop
+abbrev invariant-loop : tie.invariant-loop-i
 invariant-loop len out₀ at pieces next₀ i₀ out next i = (i ≤ 32) × (i ≤ len) × (length pieces ≡ 32) × Lays (pieces_text (take i pieces)) at out₀ next out
 
-abbrev decreases-loop : tie.decreases-loop
+abbrev decreases-loop : tie.decreases-loop-i
 decreases-loop len out₀ at pieces next₀ i₀ out next i = 32 - i
 
-loop-holds : tie.Need-loop-init invariant-loop decreases-loop
-loop-holds c = (omega arith, omega arith, search (rules, long), lays-as _ _ _ _ pieces_none (lays-none c.before.args.at c.before.args.out.now))
+loop-holds : tie.Need-loop-i-init invariant-loop decreases-loop
+loop-holds c = (omega arith, omega arith, search (rules, long), lays-as _ _ _ _ pieces_none (lays-none c.args.at c.args.out.now))
 
-same_length : tie.Need-same-length invariant-loop decreases-loop
-same_length c = lays-length _ _ _ c.before.before.loop.invariant.3
+same_length : tie.Need-shape_of-out-then-i-len invariant-loop decreases-loop
+same_length c = lays-length _ _ _ c.loop-i.invariant.3
 
-returns : tie.Need-returns invariant-loop decreases-loop
+returns : tie.Need-returns-then-i-len invariant-loop decreases-loop
 returns c =
-    let s = c.before.before.before.before.args in
-    let e : c.before.before.loop.i ≡ s.len = omega arith in
-    lays-as _ _ _ _ (ap (λ n. pieces_text (take n s.t1)) e) c.before.before.loop.invariant.3
+    let s = c.args in
+    let e : c.loop-i.i ≡ s.len = omega arith in
+    lays-as _ _ _ _ (ap (λ n. pieces_text (take n s.pieces)) e) c.loop-i.invariant.3
 
-mul-write-piece : tie.Need-overflow-mul-write-piece invariant-loop decreases-loop
+mul-write-piece : tie.Need-offset_bounds-pieces-i invariant-loop decreases-loop
 mul-write-piece c = omega arith
 
-array-copy-out-write-piece : tie.Need-array-copy-out-write-piece invariant-loop decreases-loop
+array-copy-out-write-piece : tie.Need-bounds-pieces-i invariant-loop decreases-loop
 array-copy-out-write-piece c = omega arith
 
-write-piece-requires : tie.Need-write-piece-requires invariant-loop decreases-loop
+write-piece-requires : tie.Need-write_piece-next-requires invariant-loop decreases-loop
 write-piece-requires c κs = tt
 
-add-i : tie.Need-overflow-add-i invariant-loop decreases-loop
+add-i : tie.Need-overflow_add-i invariant-loop decreases-loop
 add-i c = omega arith
 
-loop-less : tie.Need-loop-smaller invariant-loop decreases-loop
+loop-less : tie.Need-loop-i-smaller invariant-loop decreases-loop
 loop-less c = omega arith
 
-loop-again : tie.Need-loop-preserved invariant-loop decreases-loop
+loop-again : tie.Need-loop-i-preserved invariant-loop decreases-loop
 loop-again c =
-    let l = c.before.before.before.before.before.before.before in
-    let s = l.before.before.args in
-    let i = l.loop.i in
-    let h : i < length s.t1 = omega arith in (
+    let l = c in
+    let s = l.args in
+    let i = l.loop-i.i in
+    let h : i < length s.pieces = omega arith in (
       omega arith,
       omega arith,
-      l.loop.invariant.2,
-      lays-as _ _ _ _ (pieces_more i s.t1 _ h) (lays-then _ _ _ _ l.loop.invariant.3 c.before.before.write-piece.ensures),
+      l.loop-i.invariant.2,
+      lays-as _ _ _ _ (pieces_more i s.pieces _ h) (lays-then _ _ _ _ l.loop-i.invariant.3 c.write_piece-next.ensures),
     )
 
-same-length-2 : tie.Need-same-length-2 invariant-loop decreases-loop
-same-length-2 c = lays-length _ _ _ c.before.loop.invariant.3
+same-length-2 : tie.Need-shape_of-out invariant-loop decreases-loop
+same-length-2 c = lays-length _ _ _ c.loop-i.invariant.3
 
-returns-2 : tie.Need-returns-2 invariant-loop decreases-loop
+returns-2 : tie.Need-returns invariant-loop decreases-loop
 returns-2 c =
-    let s = c.before.before.before.args in
-    let i = c.before.loop.i in
-    lays-as _ _ _ _ (ap pieces_text (take_all i s.t1 (omega arith) ∙ sym (take_all s.len s.t1 (omega arith)))) c.before.loop.invariant.3
+    let s = c.args in
+    let i = c.loop-i.i in
+    lays-as _ _ _ _ (ap pieces_text (take_all i s.pieces (omega arith) ∙ sym (take_all s.len s.pieces (omega arith)))) c.loop-i.invariant.3
 
-pub write-pieces-spec : {M : Type 1} → statement M
-write-pieces-spec =
+pub write_pieces_spec : {M : Type 1} → statement M
+write_pieces_spec =
     tie.close
     (tie.spec
     invariant-loop

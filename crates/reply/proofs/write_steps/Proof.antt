@@ -9,18 +9,18 @@ use Rattle.reply.proofs.write_steps.Tie as tie
 counted-requires : tie.Need-counted-requires
 counted-requires c κs = tt
 
-write-decimal-requires : tie.Need-write-decimal-requires
+write-decimal-requires : tie.Need-write_decimal-requires
 write-decimal-requires c κs = tt
 
-same_length : tie.Need-same-length
+same_length : tie.Need-shape_of-out
 same_length c = search rules
 
-returns : tie.Need-returns
-returns c = lays-as _ _ _ _ (counted-steps c.before.before.before.before.before.before.before.args.op c.before.before.before.before.before.before.before.args.steps (sym c.before.before.before.before.before.counted.ensures ∙ c.before.before.before.before.if1.true)) c.before.before.write-decimal.ensures
+returns : tie.Need-returns-then-counted
+returns c = lays-as _ _ _ _ (counted-steps c.args.op c.args.steps (sym c.counted.ensures ∙ c.if-counted.true)) c.write_decimal.ensures
 
-returns-2 : tie.Need-returns-2
-returns-2 c = lays-as _ _ _ _ (other-steps c.before.before.before.args.op c.before.before.before.args.steps (sym c.before.counted.ensures ∙ c.if1.false)) (lays-none c.before.before.before.args.at c.before.before.before.args.out.now)
+returns-2 : tie.Need-returns-else-counted
+returns-2 c = lays-as _ _ _ _ (other-steps c.args.op c.args.steps (sym c.counted.ensures ∙ c.if-counted.false)) (lays-none c.args.at c.args.out.now)
 
-pub write-steps-spec : {M : Type 1} → statement M
-write-steps-spec =
+pub write_steps_spec : {M : Type 1} → statement M
+write_steps_spec =
     tie.close (tie.spec counted-requires write-decimal-requires same_length returns returns-2)
