@@ -6,14 +6,14 @@ use borrow.Author.Rules.{rules}
 use Rattle.job.proofs.kanrosuye_place.Statement.{statement}
 use Rattle.job.proofs.kanrosuye_place.Tie as tie
 
-read-requires : tie.Need-read-requires
+read-requires : tie.Need-read-r-requires
 read-requires c κs = tt
 
 place-requires : tie.Need-place-requires
 place-requires c κs = tt
 
 returns : tie.Need-returns
-returns c = c.place.ensures ∙ ap (λ (r : Request). place_in r.outcome) c.before.read.ensures.0
+returns c = c.place.ensures ∙ ap (λ (r : Request). place_in r.outcome) c.read-r.ensures.0
 
-pub kanrosuye-place-spec : {M : Type 1} → statement M
-kanrosuye-place-spec = tie.close (tie.spec read-requires place-requires returns)
+pub kanrosuye_place_spec : {M : Type 1} → statement M
+kanrosuye_place_spec = tie.close (tie.spec read-requires place-requires returns)

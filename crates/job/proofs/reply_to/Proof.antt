@@ -4,32 +4,32 @@ use borrow.Author.Rules.{rules}
 use Rattle.job.proofs.reply_to.Statement.{statement}
 use Rattle.job.proofs.reply_to.Tie as tie
 
-enum_told : tie.Need-enum-told
+enum_told : tie.Need-enum_told-1
 enum_told c = search rules
 
 work-requires : tie.Need-work-requires
 work-requires c κs = tt
 
-enum-known-o : tie.Need-enum-known-o
+enum-known-o : tie.Need-enum_known-o
 enum-known-o c = search rules
 
 refuse-requires : tie.Need-refuse-requires
 refuse-requires c κs = tt
 
-same_length : tie.Need-same-length
+same_length : tie.Need-shape_of-page-in-Done
 same_length c = search rules
 
-returns : tie.Need-returns
-returns c = job-done c.before.before.before.before.before.before.before.args.r _ _ _ c.before.before.before.before.enum_told.given.1 c.before.before.work.ensures
+returns : tie.Need-returns-in-Done
+returns c = job-done c.args.r _ _ _ c.in-Done.is c.work.ensures
 
-same-length-2 : tie.Need-same-length-2
+same-length-2 : tie.Need-shape_of-page-in-Refused
 same-length-2 c = search rules
 
-returns-2 : tie.Need-returns-2
-returns-2 c = job-refused c.before.before.before.before.before.before.before.before.args.r _ _ _ _ c.before.before.before.before.before.o.given.1 c.before.before.refuse.ensures
+returns-2 : tie.Need-returns-in-Refused
+returns-2 c = job-refused c.args.r _ _ _ _ c.in-Refused.is c.refuse.ensures
 
-pub reply-to-spec : {M : Type 1} → statement M
-reply-to-spec =
+pub reply_to_spec : {M : Type 1} → statement M
+reply_to_spec =
     tie.close
     (tie.spec
     enum_told
