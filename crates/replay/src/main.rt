@@ -4,7 +4,7 @@
 // From operation 32 on real.rt says what a line has.
 #![tactic(auto)]
 
-use libc::STDOUT_FILENO;
+use std::io;
 
 mod real;
 
@@ -249,13 +249,11 @@ fn room() -> [u8; 131072]
     [0; 131072]
 }
 
-fn main() {
+fn main(rt: HostRuntime) -> io::Result<()> {
     let mut data = room();
-    let len = io::read_full(0, &mut data);
+    let len = input::fill(&mut &rt.stdin(), &mut data)?;
     let t = all(&data, len);
-    io::write_all(STDOUT_FILENO, b"replayed ");
-    io::print_decimal(STDOUT_FILENO, t.count);
-    io::write_all(STDOUT_FILENO, b" answers, not as stored: ");
-    io::print_decimal(STDOUT_FILENO, t.differ);
-    io::write_all(STDOUT_FILENO, b"\n");
+    let count = t.count;
+    let differ = t.differ;
+    println!(rt; "replayed {count} answers, not as stored: {differ}")
 }

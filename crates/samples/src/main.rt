@@ -1,68 +1,38 @@
 // The examples, run: each pair of arguments is a file with a job and a file with the answer it must get.
 #![tactic(auto)]
 
-ghost use Rattle.std.specs.Prelude.{◌≤◌};
-ghost use Rattle.io.specs.Counts.{IsPrefixLen};
+use std::fs::File;
+use std::rt::Files;
+use std::{env, io};
 
-use libc::STDOUT_FILENO;
-
-// Puts the file that argument i names at the start of buf.
-fn read(i: usize, buf: &mut [u8]) -> usize
-    ensures { IsPrefixLen result buf.new }
-{
-    let mut path = io::buffer();
-    let length = os::arg(i, &mut path);
-    let fd = os::open_read(&path[..length]);
-    let n = io::read_full(fd, buf);
-    libc::close(fd);
-    n
+// Whether the job in a file gets the answer in another.
+fn agrees<R: Files>(rt: &R, job: &str, answer: &str) -> io::Result<bool> {
+    let mut text = [0u8; 4096];
+    let n = input::fill(&mut File::open(rt, job)?, &mut text)?;
+    let mut told = [0u8; 4096];
+    let m = input::fill(&mut File::open(rt, answer)?, &mut told)?;
+    let mut out = [0u8; 4096];
+    let r = job::run(&text[..n], &mut out);
+    Ok(out[..r.len] == told[..m])
 }
 
-// Whether the job of argument i gets the answer of the next one.
-fn agrees(i: usize) -> bool
-    requires { i ≤ 99 }
-{
-    let mut input = io::buffer();
-    let n = read(i, &mut input);
-    let mut told = io::buffer();
-    let m = read(i + 1, &mut told);
-    let mut out = io::buffer();
-    let r = job::run(&input[..n], &mut out);
-    check::same(&out[..r.len], &told[..m])
-}
-
-fn one_unless(same: bool) -> u64
-    ensures { result ≤ 1 }
-{
-    if same { 0 } else { 1 }
-}
-
-#[derive(Clone, Copy)]
-struct Tally {
-    jobs: u64,
-    differ: u64,
-}
-
-// Every pair, at most 49 of them.
-fn all() -> Tally {
-    let mut differ: u64 = 0;
+fn main(rt: HostRuntime) -> io::Result<()> {
+    let mut names = env::args(&rt)?;
+    let _program = names.next();
     let mut jobs: u64 = 0;
-    while jobs < 49 {
-        let i = 2 * (jobs as usize) + 1;
-        if i >= os::arg_count() {
-            return Tally { jobs, differ };
+    let mut differ: u64 = 0;
+    // Every pair, at most 49 of them.
+    for _ in 0..49 {
+        let Some(job) = names.next() else {
+            break;
+        };
+        let Some(answer) = names.next() else {
+            break;
+        };
+        if !agrees(&rt, job.as_str(), answer.as_str())? {
+            differ += 1;
         }
-        differ += one_unless(agrees(i));
         jobs += 1;
     }
-    Tally { jobs, differ }
-}
-
-fn main() {
-    let t = all();
-    io::write_all(STDOUT_FILENO, b"jobs ");
-    io::print_decimal(STDOUT_FILENO, t.jobs);
-    io::write_all(STDOUT_FILENO, b", answers that differ from the examples: ");
-    io::print_decimal(STDOUT_FILENO, t.differ);
-    io::write_all(STDOUT_FILENO, b"\n");
+    println!(rt; "jobs {jobs}, answers that differ from the examples: {differ}")
 }
