@@ -318,8 +318,7 @@ pub fn number(o: Outcome, steps: u64) -> u64
     }
 }
 
-#[unsafe(no_mangle)]
-pub extern "C" fn kanrosuye_call(
+pub fn kanrosuye_call(
     op: u64,
     an: &[i64],
     ad: &[i64],
@@ -374,8 +373,7 @@ fn step(op: u64, a: Ratio, b: Ratio) -> Step
 }
 
 // One rational step on an / ad and bn / bd; the fraction is written as its numerator and its denominator. Handed back: the status.
-#[unsafe(no_mangle)]
-pub extern "C" fn kanrosuye_step(
+pub fn kanrosuye_step(
     op: u64,
     an: i64,
     ad: i64,

@@ -21,8 +21,7 @@ use sturm::Count;
 // ---- floats
 
 // The float of n / d. Handed back: the status.
-#[unsafe(no_mangle)]
-pub extern "C" fn kanrosuye_to_float(n: i64, d: i64, out: &mut [f64; 1]) -> u64
+pub fn kanrosuye_to_float(n: i64, d: i64, out: &mut [f64; 1]) -> u64
     ensures is { result ≡ float_status (to_float (record { num = n; den = d })) }
     ensures lent { out.new ≡ lent_float out.old (to_float (record { num = n; den = d })) }
 {
@@ -37,8 +36,7 @@ pub extern "C" fn kanrosuye_to_float(n: i64, d: i64, out: &mut [f64; 1]) -> u64
 }
 
 // The fraction of a float, as its numerator and its denominator. Handed back: the status.
-#[unsafe(no_mangle)]
-pub extern "C" fn kanrosuye_to_ratio(v: f64, out: &mut [i64; 2]) -> u64
+pub fn kanrosuye_to_ratio(v: f64, out: &mut [i64; 2]) -> u64
     ensures is { result ≡ status_of (to_ratio v) }
     ensures lent { out.new ≡ lent_step out.old (to_ratio v) }
 {
@@ -71,8 +69,7 @@ fn counted(an: &[i64], ad: &[i64], lo: f64, hi: f64) -> Count
 }
 
 // How many distinct real roots lie between the ends.
-#[unsafe(no_mangle)]
-pub extern "C" fn kanrosuye_count(an: &[i64], ad: &[i64], lo: f64, hi: f64) -> u64
+pub fn kanrosuye_count(an: &[i64], ad: &[i64], lo: f64, hi: f64) -> u64
     ensures is { result ≡ number_told (counted_of an.now ad.now lo hi).outcome (counted_of an.now ad.now lo hi).count }
 {
     let c = counted(an, ad, lo, hi);
@@ -98,8 +95,7 @@ fn isolated(an: &[i64], ad: &[i64], lo: f64, hi: f64, tol: f64) -> Isolation
 }
 
 // The real roots from lo to hi, rising, with zeros behind them.
-#[unsafe(no_mangle)]
-pub extern "C" fn kanrosuye_isolate(
+pub fn kanrosuye_isolate(
     an: &[i64],
     ad: &[i64],
     lo: f64,
@@ -126,8 +122,7 @@ pub extern "C" fn kanrosuye_isolate(
 // ---- expressions
 
 // The polynomial in the wanted variable that an expression is.
-#[unsafe(no_mangle)]
-pub extern "C" fn kanrosuye_lower(
+pub fn kanrosuye_lower(
     text: &[u8],
     wrt: u64,
     nums: &mut [i64; 32],
@@ -157,8 +152,7 @@ fn index(wrt: u64) -> Gate
 }
 
 // The polynomial as an expression in a variable, in front of the page. Handed back: 16 times its length, plus the status.
-#[unsafe(no_mangle)]
-pub extern "C" fn kanrosuye_to_lowered(an: &[i64], ad: &[i64], wrt: u64, out: &mut [u8]) -> u64
+pub fn kanrosuye_to_lowered(an: &[i64], ad: &[i64], wrt: u64, out: &mut [u8]) -> u64
     ensures is { result ≡ number_told (written_of an.now ad.now wrt out.old).outcome (written_of an.now ad.now wrt out.old).len }
     ensures page { out.new ≡ page_of an.now ad.now wrt out.old }
 {

@@ -189,8 +189,7 @@ pub fn run(input: &[u8], out: &mut [u8]) -> Ran
 // ---- for programs in other languages
 
 // `run`, by the answer's length alone: 0 where the output is too short.
-#[unsafe(no_mangle)]
-pub extern "C" fn kanrosuye_job(input: &[u8], out: &mut [u8]) -> usize
+pub fn kanrosuye_job(input: &[u8], out: &mut [u8]) -> usize
     ensures is { result ≡ (ran_in (length out.old) (reply_to input.now)).len }
     ensures written { out.new ≡ written_on out.old (reply_to input.now) }
 {
@@ -218,8 +217,7 @@ fn place(o: Outcome) -> usize
 }
 
 // Where a malformed job goes wrong; the greatest number where it isn't malformed.
-#[unsafe(no_mangle)]
-pub extern "C" fn kanrosuye_place(input: &[u8]) -> usize
+pub fn kanrosuye_place(input: &[u8]) -> usize
     ensures is { result ≡ place_in (request_of input.now).outcome }
 {
     let r = request::read(input);
