@@ -13,7 +13,7 @@ use Rattle.ratio.specs.declared.Outcome.{Outcome}
 use Rattle.ratio.specs.declared.Outcome.TheVariants as O
 use Rattle.ratio.specs.declared.Reason.{Reason}
 use Rattle.ratio.specs.declared.Reason.TheVariants.{TooLong}
-use Rattle.yun.specs.Got.{Got, got, none, then_got}
+use Rattle.yun.specs.Got.{got, none, then_got}
 use Rattle.bisect.specs.declared.Bracket.{Bracket}
 use Rattle.bisect.specs.declared.Brackets.{Brackets}
 use Rattle.bisect.specs.Bracket.{Found, unused, holding, refused_for, brackets_of, items_of, found_from, found_in, Kept, pushed, push_if, marked}

@@ -2,13 +2,13 @@
 use mathlib.Core.Path.{◌≡◌, refl, sym, ap, ◌∙◌}
 use mathlib.Core.Bool.{Bool, true, false, cond, true≢false}
 use mathlib.Core.List.{List}
-use Prim.Native.Nat.{ℕ, zero, suc, ◌-◌, ◌≤◌, ◌<◌}
+use Prim.Native.Nat.{ℕ, zero, suc, ◌-◌, ◌≤◌}
 use native.Mathlib.Omega.{arith}
 use borrow.Author.Tests.{eqb-true, eqb-false}
 use lib.Dec.{eqb}
 use lib.Ieee.{Float, binary64, sub, lt}
 use Rattle.ratio.specs.declared.Reason.TheVariants.{TooDeep}
-use Rattle.yun.specs.Got.{Got, got, none, then_got}
+use Rattle.yun.specs.Got.{got, none, then_got}
 use Rattle.bisect.specs.declared.Bracket.{Bracket}
 use Rattle.bisect.specs.declared.Cut.{Cut}
 use Rattle.bisect.specs.Bracket.{Found, pushed, marked}

@@ -1,9 +1,9 @@
 -- The whole bisection: exact roots at the ends, then what is between them.
-use mathlib.Core.Path.{◌≡◌, refl, sym, ap, ap₂, ◌∙◌}
+use mathlib.Core.Path.{◌≡◌, sym, ap, ap₂, ◌∙◌}
 use mathlib.Core.Bool.{Bool, true, false}
 use mathlib.Core.List.{List, []}
 use lib.Ieee.{Float, binary64, add, sub, le}
-use Rattle.yun.specs.Got.{Got, got, none, then_got}
+use Rattle.yun.specs.Got.{got, then_got}
 use Rattle.bisect.specs.declared.Bracket.{Bracket}
 use Rattle.bisect.specs.declared.Brackets.{Brackets}
 use Rattle.bisect.specs.Bracket.{Found, found_in, brackets_of, marked}

@@ -1,8 +1,8 @@
 -- The calls of the bisection are bounded: a call that counts a root finds a bracket or refuses, and each bracket pays for the calls on the way to it. So it does for the values that are worked out.
-use mathlib.Core.Path.{◌≡◌, refl, sym, ap, ap₂, subst, ◌∙◌}
+use mathlib.Core.Path.{◌≡◌, refl, ap, subst, ◌∙◌}
 use mathlib.Core.Bool.{Bool, true, false}
 use mathlib.Core.List.{List, [], ◌∷◌, ◌++◌}
-use Prim.Native.Nat.{ℕ, zero, suc, ◌+◌, ◌-◌, ◌*◌, ◌≤◌, ◌<◌}
+use Prim.Native.Nat.{ℕ, zero, suc, ◌+◌, ◌*◌, ◌≤◌, ◌<◌}
 use native.Mathlib.Nat.{mul-le-mul_left}
 use native.Mathlib.Omega.{arith}
 use lib.Dec.{ltb}
@@ -10,9 +10,8 @@ use lib.Ieee.{Float, binary64, sub, lt, le}
 use lib.ListN.{length, length-append}
 use borrow.Author.Tests.{ltb-true, ltb-false}
 use Rattle.ratio.specs.declared.Reason.TheVariants.{TooDeep}
-use Rattle.yun.specs.Got.{Got, got, none, then_got}
+use Rattle.yun.specs.Got.{got, none, then_got}
 use Rattle.bisect.specs.declared.Bracket.{Bracket}
-use Rattle.bisect.specs.declared.Cut.{Cut}
 use Rattle.bisect.specs.Bracket.{Found, push_if, pushed, marked}
 use Rattle.bisect.specs.Cut.{count_in, root_at, middle, hits_of, nearby, cut_if, cut_of}
 use Rattle.bisect.specs.Bisect.{decided, partly, split_by, inner_of, start, end, unless_empty, bisect_of}

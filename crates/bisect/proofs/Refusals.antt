@@ -7,7 +7,7 @@ use lib.Dec.{ltb}
 use lib.Ieee.{Float, binary64, sub, lt, le}
 use lib.ListN.{length}
 use Rattle.ratio.specs.declared.Reason.TheVariants.{TooLong, TooDeep}
-use Rattle.yun.specs.Got.{Got, got, none, then_got}
+use Rattle.yun.specs.Got.{got, none, then_got}
 use Rattle.bisect.specs.declared.Bracket.{Bracket}
 use Rattle.bisect.specs.declared.Cut.{Cut}
 use Rattle.bisect.specs.Bracket.{Found, push_if, pushed, marked}

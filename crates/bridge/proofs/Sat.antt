@@ -1,5 +1,5 @@
 -- What each way through `round` shows: at 2 ^ 63 and above, at -2 ^ 63 and below, between them on each side of 0, and at 0 and NaN.
-use Rattle.std.proofs.Common.{◌≡◌, ℕ, ◌+◌, ◌-◌, ◌*◌, ◌^◌, ◌<◌, ◌≤◌, min, Bool, true, false, not, ◌&&◌, ◌||◌, T, eqb, ltb, ◌⊎◌, pos, negsuc, ◌-ℤ◌, neg_ℤ, sym, refl, ap, ◌∙◌, subst, inl, inr, true≢false, le_of_eq, le_of_lt, le-div_iff_mul-le, arith, eqb→eq, ltb→lt, lt→ltb, nltb→le, w64, to_z, of_z}
+use Rattle.std.proofs.Common.{◌≡◌, ℕ, ◌+◌, ◌*◌, ◌<◌, ◌≤◌, min, Bool, true, false, not, ◌&&◌, ◌||◌, T, eqb, ltb, ◌⊎◌, pos, negsuc, ◌-ℤ◌, neg_ℤ, sym, refl, ap, ◌∙◌, subst, inl, inr, true≢false, le_of_eq, le_of_lt, le-div_iff_mul-le, arith, eqb→eq, ltb→lt, lt→ltb, nltb→le, w64, to_z, of_z}
 use mathlib.Core.Bool.{false≢true}
 use native.Mathlib.Nat.{div-eq_of_lt}
 use lib.Ieee.{Float, nan, inf, fin, binary64, up, down, lt, le, eq, neg, of_bits}

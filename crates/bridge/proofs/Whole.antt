@@ -1,5 +1,5 @@
 -- Whole numbers up to 2^53 as floats: nothing is rounded, a quotient of two is rounded once, and they come back from the search as themselves.
-use Rattle.std.proofs.Common.{◌≡◌, ℕ, zero, suc, ◌+◌, ◌-◌, ◌*◌, ◌/◌, ◌<◌, ◌≤◌, min, Bool, true, false, ℤ, pos, negsuc, neg_ℤ, nat_abs, sym, refl, ap, ◌∙◌, zero-lt-suc, div-lt_iff_lt-mul, mul-pos, le-div_iff_mul-le, zero-mul, arith, le-ltb, ne_eqb}
+use Rattle.std.proofs.Common.{◌≡◌, ℕ, suc, ◌+◌, ◌-◌, ◌*◌, ◌<◌, ◌≤◌, min, Bool, true, false, ℤ, pos, negsuc, neg_ℤ, nat_abs, sym, refl, ap, ◌∙◌, zero-lt-suc, div-lt_iff_lt-mul, mul-pos, le-div_iff_mul-le, zero-mul, arith, le-ltb, ne_eqb}
 use lib.Signed.{lt_z}
 use lib.Ieee.{Float, nan, inf, fin, Format, binary64, up, down, unlike, round, neg, add, sub, sum, mul, div, of_int, of_bits, lt}
 use lib.Ieee.Fits.{up_pos, down_pos}

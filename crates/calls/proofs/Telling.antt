@@ -1,19 +1,18 @@
 -- What is told of an answer: how an input came in, the number handed back, the work behind an open door.
 use mathlib.Core.Path.{◌≡◌, refl, sym, ap, ap₂, ◌∙◌}
-use mathlib.Core.Bool.{Bool, true, false}
+use mathlib.Core.Bool.{true}
 use mathlib.Core.List.{List, [], ◌∷◌, ◌++◌}
-use Prim.Native.Nat.{ℕ, zero, suc, ◌+◌, ◌-◌, ◌*◌, ◌%◌, ◌<◌, ◌≤◌}
+use Prim.Native.Nat.{ℕ, ◌+◌, ◌*◌, ◌%◌, ◌<◌, ◌≤◌}
 use native.Mathlib.Numerals.{add-one}
 use native.Mathlib.Omega.{arith}
 use borrow.Author.Tests.{eq-eqb, ne_eqb}
-use lib.Dec.{eqb}
 use lib.IntN.{ℤ, pos}
 use lib.ListN.{length, take, get_or, set}
 use lib.Seq.{take_all, take-suc, take-suc-set}
 use mir.Syntax.{w64}
 use mir.Val.{SFits, of_z, to_z}
 use mir.Facts.{to_z-of_z}
-use Rattle.ratio.specs.Refusal.{number_of, outcome_status, status_of, zero_r}
+use Rattle.ratio.specs.Refusal.{number_of, status_of, zero_r}
 use Rattle.ratio.specs.Step.{is_lowest}
 use Rattle.ratio.specs.declared.Outcome.{Outcome}
 use Rattle.ratio.specs.declared.Outcome.TheVariants as O

@@ -373,14 +373,7 @@ fn step(op: u64, a: Ratio, b: Ratio) -> Step
 }
 
 // One rational step on an / ad and bn / bd; the fraction is written as its numerator and its denominator. Handed back: the status.
-pub fn kanrosuye_step(
-    op: u64,
-    an: i64,
-    ad: i64,
-    bn: i64,
-    bd: i64,
-    out: &mut [i64; 2],
-) -> u64
+pub fn kanrosuye_step(op: u64, an: i64, ad: i64, bn: i64, bd: i64, out: &mut [i64; 2]) -> u64
     ensures is { result ≡ status_of (step_for op (record { num = an; den = ad }) (record { num = bn; den = bd })) }
     ensures lent { out.new ≡ lent_step out.old (step_for op (record { num = an; den = ad }) (record { num = bn; den = bd })) }
 {

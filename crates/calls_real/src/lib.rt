@@ -122,12 +122,7 @@ pub fn kanrosuye_isolate(
 // ---- expressions
 
 // The polynomial in the wanted variable that an expression is.
-pub fn kanrosuye_lower(
-    text: &[u8],
-    wrt: u64,
-    nums: &mut [i64; 32],
-    dens: &mut [i64; 32],
-) -> u64
+pub fn kanrosuye_lower(text: &[u8], wrt: u64, nums: &mut [i64; 32], dens: &mut [i64; 32]) -> u64
     ensures is { result ≡ number_told (lower_of wrt text.now).outcome (lower_of wrt text.now).steps }
     ensures lent_nums { nums.new ≡ lent_after (lower_of wrt text.now).outcome nums.old (nums_of (lower_of wrt text.now).poly) }
     ensures lent_dens { dens.new ≡ lent_after (lower_of wrt text.now).outcome dens.old (dens_of (lower_of wrt text.now).poly) }

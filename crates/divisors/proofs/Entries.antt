@@ -1,11 +1,9 @@
 -- Which entry stands at which place among the entries of a divisor.
-use mathlib.Core.Path.{◌≡◌, refl, sym, ap, ap₂, ◌∙◌, subst}
-use mathlib.Core.Bool.{Bool, true, false}
-use mathlib.Core.List.{List, [], ◌∷◌}
+use mathlib.Core.Path.{◌≡◌, refl, sym, ap}
 use Prim.Native.Nat.{ℕ, zero, suc, ◌*◌, ◌/◌}
 use native.Mathlib.Omega.{arith}
 use borrow.Author.Tests.{eq-eqb, ne_eqb}
-use lib.IntN.{ℤ, pos, neg_ℤ}
+use lib.IntN.{pos, neg_ℤ}
 use Rattle.divisors.specs.declared.Entry.TheVariants.{Is, Nothing}
 use Rattle.divisors.specs.Listing.{entries, others}
 use Rattle.divisors.specs.Walk.{entry_of}

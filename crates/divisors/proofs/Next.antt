@@ -1,21 +1,19 @@
 -- What `next_of` and `listing_of` are, by the cases in which the code goes.
-use mathlib.Core.Path.{◌≡◌, refl, sym, ap, ap₂, ◌∙◌, subst}
+use mathlib.Core.Path.{◌≡◌, refl, sym, ap, ◌∙◌}
 use mathlib.Core.Bool.{Bool, true, false, ◌&&◌}
-use mathlib.Core.List.{List, [], ◌∷◌}
-use Prim.Native.Nat.{ℕ, zero, suc, ◌+◌, ◌*◌, ◌-◌, ◌/◌, ◌%◌, ◌<◌, ◌≤◌}
+use mathlib.Core.List.{List}
+use Prim.Native.Nat.{ℕ, zero, suc, ◌+◌, ◌*◌, ◌-◌, ◌/◌, ◌<◌, ◌≤◌}
 use native.Mathlib.Omega.{arith}
 use borrow.Author.Tests.{lt-ltb, le-ltb, le-leb, lt-leb, eq-eqb, ne_eqb}
-use lib.Dec.{leb, ltb}
+use lib.Dec.{leb}
 use lib.IntN.{ℤ, pos, nat_abs}
 use Rattle.ratio.specs.Range.{limit}
-use Rattle.ratio.specs.declared.Outcome.TheVariants.{Done, Refused}
+use Rattle.ratio.specs.declared.Outcome.TheVariants.{Done}
 use Rattle.ratio.specs.declared.Reason.TheVariants.{BadInput, Budget}
-use Rattle.divisors.specs.declared.Listing.{Listing}
-use Rattle.divisors.specs.declared.Entry.{Entry}
 use Rattle.divisors.specs.declared.Entry.TheVariants.{Is, Nothing}
 use Rattle.divisors.specs.declared.Found.{Found}
 use Rattle.divisors.specs.declared.Found.TheVariants.{At, End}
-use Rattle.divisors.specs.Marks.{listing_of, refused_by, marks_of, unless}
+use Rattle.divisors.specs.Marks.{listing_of, refused_by, marks_of}
 use Rattle.divisors.specs.Walk.{is_place, found_if, or_else, here_of, first_of, mark_from, next_of}
 
 pub inside : (size at : ℕ) → size ≤ limit → at < 262144 → is_place size at ≡ true

@@ -1,7 +1,7 @@
 -- Passing over bits that are not set.
 use mathlib.Core.Path.{◌≡◌, refl, sym, ap, ap₂, ◌∙◌, subst}
 use mathlib.Core.Bool.{Bool, true, false, ◌&&◌, cond}
-use mathlib.Core.List.{List, [], ◌∷◌}
+use mathlib.Core.List.{List}
 use Prim.Native.Nat.{ℕ, zero, suc, ◌+◌, ◌*◌, ◌-◌, ◌/◌, ◌%◌, ◌^◌, ◌<◌, ◌≤◌}
 use native.Mathlib.Nat.{zero-div, div-one, div-le_self, div-mul-le_self, div-div-eq-div-mul, lt_of_le_of_lt, le_trans, le_of_eq, mul_assoc, mul-div_cancel, mul-le-mul_right, mul-mod_left, pow-suc}
 use native.Mathlib.Decide.{dec_lt}

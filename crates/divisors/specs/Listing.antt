@@ -1,5 +1,5 @@
 -- Document 01, module 1, `integer_factors`: with N = abs n, the entries i, -i, N/i, -(N/i) for each divisor i, rising up to the root, a square's root and its negative once, and [0] for 0.
-use Rattle.std.specs.Prelude.{Bool, true, false, ◌&&◌, List, [], ◌∷◌, ◌++◌, ℕ, zero, suc, ◌+◌, ◌*◌, ◌/◌, ◌%◌, leb, eqb, ℤ, pos, neg_ℤ}
+use Rattle.std.specs.Prelude.{Bool, true, false, ◌&&◌, List, [], ◌∷◌, ◌++◌, ℕ, zero, suc, ◌*◌, ◌/◌, ◌%◌, leb, eqb, ℤ, pos, neg_ℤ}
 
 abbrev pub others : Bool → ℕ → List ℤ
 others true d = []

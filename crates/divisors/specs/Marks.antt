@@ -1,7 +1,5 @@
 -- A listing as a bit set: bit j % 64 of word j / 64 is set exactly if j + 1 is a divisor up to the root. What `integer_factors` hands back.
 use Rattle.std.specs.Prelude.{Bool, true, false, List, [], ◌∷◌, ℕ, zero, suc, ◌+◌, ◌*◌, ◌/◌, ◌%◌, ◌^◌, leb, ltb, eqb, ℤ, nat_abs, get_or, replicate}
-use Rattle.ratio.specs.Range.{within}
-use Rattle.ratio.specs.declared.Outcome.{Outcome}
 use Rattle.ratio.specs.declared.Outcome.TheVariants.{Done, Refused}
 use Rattle.ratio.specs.declared.Reason.{Reason}
 use Rattle.ratio.specs.declared.Reason.TheVariants.{BadInput, Budget}

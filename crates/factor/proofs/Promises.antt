@@ -1,7 +1,7 @@
 -- The promise of the factors: the powers of what was found multiply to the polynomial over its leading coefficient.
 use mathlib.Core.Path.{◌≡◌, refl, sym, ap, ap₂, subst, ◌∙◌}
 use mathlib.Core.List.{List, [], ◌∷◌}
-use Prim.Native.Nat.{ℕ, suc, ◌-◌, ◌≤◌}
+use Prim.Native.Nat.{ℕ, suc, ◌≤◌}
 use native.Mathlib.Omega.{arith}
 use lib.ListN.{length}
 use Rattle.algebra.specs.Rational.{zero_q}
@@ -13,7 +13,7 @@ use Rattle.algebra.proofs.Poly.{Poly-ring, con_p, nil_p}
 use Rattle.algebra.proofs.Constants.{con-mul, con-mul-at}
 use Rattle.algebra.proofs.Degree.{HasDeg, deg-con, deg-not-nil, deg-unique}
 use Rattle.algebra.proofs.PolyDomain.{deg-scaled, P-cancel}
-use Rattle.algebra.proofs.Lists.{ℚP, ◌*P◌, poly, poly-at, poly-equal, equal-poly, poly-scaled, poly-empty}
+use Rattle.algebra.proofs.Lists.{ℚP, ◌*P◌, poly-at, poly-equal, equal-poly, poly-scaled, poly-empty}
 use Rattle.algebra.proofs.ListWords.{degree-to, degree-from, zero-to, zero-from}
 use Rattle.ratio.specs.Promise.{Lowest}
 use Rattle.ratio.specs.Refusal.{number_of, ratio_of, outcome_status}

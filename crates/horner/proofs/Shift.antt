@@ -9,7 +9,7 @@ use lib.ListN.{length, get_or, set, replicate, length-append}
 use lib.Seq.{get_or-append_seam, set-append_seam, set-get_or, append_snoc}
 use Rattle.ratio.specs.Promise.{Lowest}
 use Rattle.ratio.specs.Refusal.{zero_r}
-use Rattle.ratio.specs.Step.{is_nil, add_of, mul_of}
+use Rattle.ratio.specs.Step.{is_nil, add_of}
 use Rattle.ratio.specs.declared.Ratio.{Ratio}
 use Rattle.ratio.specs.declared.Step.{Step}
 use Rattle.ratio.specs.declared.Step.TheVariants.{Done}

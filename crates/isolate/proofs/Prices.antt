@@ -16,7 +16,7 @@ use Rattle.terms.specs.declared.Poly.{Poly}
 use Rattle.terms.specs.Machine.{Ran, fine, over, plain}
 use Rattle.terms.specs.Poly.{terms_of, trim}
 use Rattle.terms.proofs.MeaningCanonical.{Canonical}
-use Rattle.poly.specs.Door.{door_of, both, entered}
+use Rattle.poly.specs.Door.{door_of, both}
 use Rattle.poly.specs.Promise.{reading}
 use Rattle.poly.proofs.Canonical.{opened, both-open}
 use Rattle.remainders.specs.Gcd.{square_free}
@@ -30,7 +30,7 @@ use Rattle.sturm.proofs.Promises.{Part, part-means}
 use Rattle.bisect.specs.Bracket.{Found}
 use Rattle.bisect.specs.Bisect.{bisect_of}
 use Rattle.bisect.specs.declared.Bracket.{Bracket}
-use Rattle.bisect.specs.Price.{after, calls_for, evaluations_for, most_calls}
+use Rattle.bisect.specs.Price.{after, evaluations_for, most_calls}
 use Rattle.bisect.proofs.Prices.{Fits, price-bounded, bisect-fits}
 use Rattle.refine.specs.Price.{most_of_root}
 use Rattle.refine.proofs.Prices.{root-most}

@@ -20,11 +20,10 @@ use Rattle.poly.specs.Promise.{reading}
 use Rattle.poly.proofs.Canonical.{Opened, opened, both-open}
 use Rattle.poly.proofs.Doors.{door-long}
 use Rattle.remainders.specs.Gcd.{square_free}
-use Rattle.remainders.proofs.MeaningFree.{SquareFreePart}
 use Rattle.euclid.proofs.Doors.{never_done, entered-keeps, nil-zero}
 use Rattle.yun.specs.Got.{Got, got, none, then_got, list_from}
 use Rattle.chain.specs.Sequence.{sequence_of}
-use Rattle.chain.proofs.MeaningChain.{Sequence, sequence-means}
+use Rattle.chain.proofs.MeaningChain.{sequence-means}
 use Rattle.chain.proofs.Refusals.{Overflows, list_over, sequence-over}
 use Rattle.sturm.specs.Value.{floats_of}
 use Rattle.sturm.specs.Along.{rows_of}

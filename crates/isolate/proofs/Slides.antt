@@ -2,7 +2,7 @@
 use mathlib.Core.Path.{◌≡◌, refl, sym, ap, ◌∙◌}
 use mathlib.Core.Bool.{Bool, true, false, cond}
 use mathlib.Core.List.{List, [], ◌∷◌, ◌++◌, append_assoc}
-use Prim.Native.Nat.{ℕ, suc, ◌+◌, ◌<◌, ◌≤◌}
+use Prim.Native.Nat.{ℕ, suc, ◌+◌, ◌≤◌}
 use native.Mathlib.Omega.{arith}
 use lib.Ieee.{Float, lt}
 use lib.ListN.{length, drop, length-append}
@@ -10,7 +10,7 @@ use Rattle.refine.specs.declared.Root.{Root}
 use Rattle.refine.specs.declared.Root.TheVariants.{At, Nothing}
 use Rattle.isolate.specs.declared.Isolation.{Isolation}
 use Rattle.isolate.specs.declared.Slide.{Slide}
-use Rattle.isolate.specs.Answer.{roots_in, holding, Kept}
+use Rattle.isolate.specs.Answer.{roots_in, holding}
 use Rattle.isolate.specs.Sorted.{inserted, placed, slide_if, slide_of}
 use Rattle.isolate.proofs.Hold.{roots-of, kept_of}
 

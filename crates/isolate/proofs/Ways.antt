@@ -1,5 +1,5 @@
 -- The limits and the isolation: each way it can go.
-use mathlib.Core.Path.{◌≡◌, refl, sym, ap, ap₂, ◌∙◌}
+use mathlib.Core.Path.{◌≡◌, refl, sym, ap₂}
 use mathlib.Core.Bool.{Bool, true, false, ◌&&◌}
 use mathlib.Core.List.{List, []}
 use lib.Ieee.{Float, binary64, of_bits, lt}
@@ -11,12 +11,9 @@ use Rattle.terms.specs.declared.Answer.{Answer}
 use Rattle.terms.specs.Machine.{plain}
 use Rattle.terms.specs.Poly.{terms_of}
 use Rattle.terms.specs.Answer.{answer_of}
-use Rattle.poly.specs.declared.Gate.{Gate}
-use Rattle.poly.specs.declared.Gate.TheVariants.{Open, Bad}
+use Rattle.poly.specs.declared.Gate.TheVariants.{Bad}
 use Rattle.poly.specs.Door.{open_if}
 use Rattle.remainders.specs.Gcd.{square_free}
-use Rattle.remainders.proofs.CodeAnswer.{done_refused}
-use Rattle.yun.specs.Got.{Got, got, none}
 use Rattle.yun.proofs.CodeGot.{list-got, list-none}
 use Rattle.chain.specs.declared.Chain.{Chain}
 use Rattle.chain.specs.Answer.{entries_of, chain_of}
@@ -26,10 +23,9 @@ use Rattle.sturm.specs.Count.{inside, ends_of}
 use Rattle.sturm.specs.Value.{floats_of}
 use Rattle.sturm.specs.Along.{rows_of}
 use Rattle.bisect.specs.declared.Brackets.{Brackets}
-use Rattle.bisect.specs.Bracket.{Found, found_in, items_of, brackets_of}
+use Rattle.bisect.specs.Bracket.{items_of, brackets_of}
 use Rattle.bisect.specs.Bisect.{bisect_of}
 use Rattle.bisect.proofs.Hold.{brackets-got, brackets-none}
-use Rattle.isolate.specs.declared.Isolation.{Isolation}
 use Rattle.isolate.specs.Answer.{holding, refused_for, isolation_of}
 use Rattle.isolate.specs.Sorted.{roots_onto}
 use Rattle.isolate.specs.Apart.{apart_onto}

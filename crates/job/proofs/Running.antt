@@ -1,5 +1,5 @@
 -- From the page to the lent output: the answer is copied whole, or nothing is.
-use mathlib.Core.Path.{◌≡◌, refl, ap, ap₂, subst, ◌∙◌}
+use mathlib.Core.Path.{◌≡◌, ap, ap₂, subst, ◌∙◌}
 use mathlib.Core.List.{List, ◌++◌}
 use Prim.Native.Nat.{ℕ, ◌+◌, ◌<◌, ◌≤◌}
 use native.Mathlib.Omega.{arith}
@@ -12,7 +12,7 @@ use Rattle.text.proofs.Pages.{laid-fits, after-fits}
 use Rattle.request.specs.declared.Request.{Request}
 use Rattle.request.specs.Request.{request_of}
 use Rattle.job.specs.declared.Ran.{Ran}
-use Rattle.job.specs.Job.{Reply, work_of, reply_to}
+use Rattle.job.specs.Job.{work_of, reply_to}
 use Rattle.job.specs.Laid.{LaysReply}
 use Rattle.job.specs.Run.{no_room, ran_in, written_on, FitsPage}
 

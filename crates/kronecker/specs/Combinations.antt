@@ -1,5 +1,5 @@
 -- Document 01, module 5, Kronecker: a divisor of each value, at most 100 combinations in listing order. If 100 is reached before the last point, none is tried.
-use Rattle.std.specs.Prelude.{◌≡◌, Bool, true, false, cond, List, [], ◌∷◌, ◌++◌, map, ℕ, zero, suc, ◌≤◌, leb, ℤ, nat_abs, length, take}
+use Rattle.std.specs.Prelude.{◌≡◌, Bool, cond, List, [], ◌∷◌, ◌++◌, map, ℕ, zero, suc, ◌≤◌, leb, ℤ, nat_abs, length, take}
 use Rattle.ratio.specs.Refusal.{ratio_of}
 use Rattle.ratio.specs.declared.Outcome.{Outcome}
 use Rattle.ratio.specs.declared.Outcome.TheVariants as O

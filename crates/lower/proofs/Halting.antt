@@ -5,7 +5,7 @@ use mathlib.Core.List.{List, [], ◌∷◌, ◌++◌, append_assoc, append-nil}
 use Prim.Native.Nat.{ℕ, ◌+◌, ◌-◌, ◌≤◌}
 use native.Mathlib.Omega.{arith}
 use borrow.Author.Tests.{ltb-false, eqb-true, eqb-false}
-use lib.Dec.{ltb, eqb}
+use lib.Dec.{eqb}
 use lib.Ieee.{Float}
 use lib.ListN.{length}
 use Rattle.ratio.specs.Promise.{Lowest}
@@ -31,13 +31,12 @@ use Rattle.tokens.specs.Words.{words_of}
 use Rattle.tokens.specs.Heights.{takes, is_other, is_malformed, is_bad, after, room_of, check_from, bare, check_of}
 use Rattle.lower.specs.declared.Whole.{Whole}
 use Rattle.lower.specs.declared.Whole.TheVariants as W
-use Rattle.lower.specs.declared.Unary.TheVariants as U
 use Rattle.lower.specs.Exponent.{exponent_of}
-use Rattle.lower.specs.Stack.{Left, fine, stopped, constant_by, pushed_by, pushed, one, raised, applied}
+use Rattle.lower.specs.Stack.{Left, fine, stopped, constant_by, pushed_by, pushed, raised, applied}
 use Rattle.lower.specs.Run.{and_then, run_from, answered, unless_refused, lower_of}
 use Rattle.lower.specs.Promise.{meant, meant_all, Accepted, AllAccepted, Match, none, some, Halts, no_fraction, other-variable, in_sum, in-difference, in-product, in-negative, no-exponent, in-power, other-operator, Stops, Comes, through, Lowers}
 use Rattle.lower.specs.Promise as P
-use Rattle.lower.proofs.Meaning.{Fits, held, over, applied-fits, lowers}
+use Rattle.lower.proofs.Meaning.{Fits, held, applied-fits, lowers}
 use Rattle.lower.proofs.Room.{chosen, check-deep, Sized, sized, applied-sized, counted}
 
 -- ---- one word

@@ -3,10 +3,10 @@ use mathlib.Core.Path.{◌≡◌, refl, sym, ap, subst, ◌∙◌}
 use mathlib.Core.Logic.{◌⊎◌, inl, inr}
 use mathlib.Core.Bool.{Bool, true, false}
 use mathlib.Core.List.{List, [], ◌∷◌}
-use Prim.Native.Nat.{ℕ, zero, suc, ◌+◌, ◌-◌, ◌≤◌, ◌<◌}
+use Prim.Native.Nat.{ℕ, zero, suc, ◌+◌, ◌-◌}
 use native.Mathlib.Omega.{arith}
 use borrow.Author.Tests.{ltb-true, ltb-false, eqb-true}
-use lib.Dec.{ltb, eqb}
+use lib.Dec.{ltb}
 use lib.IntN.{pos, nat_abs}
 use lib.ListN.{length, drop, get_or, replicate}
 use lib.Seq.{get_or-drop}
@@ -27,8 +27,8 @@ use Rattle.terms.proofs.MeaningTop.{trim-nothing}
 use Rattle.poly.specs.declared.Gate.{Gate}
 use Rattle.poly.specs.declared.Gate.TheVariants.{Open, Long, Bad}
 use Rattle.poly.specs.Canonical.{IsCanonical, IsLong, IsBad}
-use Rattle.poly.specs.Door.{is_unused, all_unused, is_canonical, open_if, long_if, door_of, door_of_ratio, both, entered}
-use Rattle.poly.proofs.Canonical.{Opened, opened, lowest-to, top_to}
+use Rattle.poly.specs.Door.{all_unused, is_canonical, open_if, long_if, door_of, door_of_ratio, both, entered}
+use Rattle.poly.proofs.Canonical.{opened, lowest-to, top_to}
 
 -- ---- what a door shows
 

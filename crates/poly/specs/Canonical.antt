@@ -1,5 +1,5 @@
 -- Document 01, module 3, in words: coefficients in lowest terms and rising, no zero at the top, unused places 0/1. A length over 32 is 4, anything else that isn't canonical 5.
-use Rattle.std.specs.Prelude.{◌≡◌, List, ℕ, suc, ◌≤◌, ◌<◌, pos, length, get_or}
+use Rattle.std.specs.Prelude.{◌≡◌, ℕ, suc, ◌≤◌, ◌<◌, pos, length, get_or}
 use Rattle.ratio.specs.Promise.{Lowest}
 use Rattle.ratio.specs.Refusal.{zero_r}
 use Rattle.terms.specs.declared.Poly.{Poly}

@@ -1,5 +1,5 @@
 -- Document 01, module 3 and "order": what is canonical, and what is refused before any work: 5, then 4 where the inputs alone show it.
-use Rattle.std.specs.Prelude.{Bool, true, false, not, ◌&&◌, List, [], ◌∷◌, zero, ◌-◌, ltb, eqb, pos, nat_abs, length, drop}
+use Rattle.std.specs.Prelude.{Bool, true, false, not, ◌&&◌, List, [], ◌∷◌, ltb, eqb, pos, nat_abs, length, drop}
 use Rattle.std.specs.Int.Signed.{lt_z}
 use Rattle.ratio.specs.Step.{is_lowest, is_nil}
 use Rattle.ratio.specs.declared.Ratio.{Ratio}

@@ -1,5 +1,5 @@
 -- Document 01, module 3: a polynomial made from two lent lists. Unequal lengths, an entry that is no fraction in lowest terms and a zero at the top are 5; then over 32 entries is 4.
-use Rattle.std.specs.Prelude.{Bool, true, false, ◌&&◌, List, [], ◌∷◌, zero, ltb, eqb, ℤ, length}
+use Rattle.std.specs.Prelude.{Bool, true, false, ◌&&◌, List, [], ◌∷◌, ltb, eqb, ℤ, length}
 use Rattle.ratio.specs.declared.Ratio.{Ratio}
 use Rattle.terms.specs.declared.Answer.{Answer}
 use Rattle.terms.specs.Poly.{poly_of}

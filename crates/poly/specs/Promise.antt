@@ -1,7 +1,7 @@
 -- Demand 2 for polynomials: an answered operation is the textbook's, and what is handed back is canonical.
 use Rattle.std.specs.Prelude.{◌≡◌, List, [], ◌∷◌, ℕ}
 use Rattle.algebra.specs.Rational.{Rat, Same, zero_q, one_q}
-use Rattle.algebra.specs.Polynomial.{Equal, coeff, value}
+use Rattle.algebra.specs.Polynomial.{Equal, coeff}
 use Rattle.algebra.specs.Textbook.{HasDegree, IsZero}
 use Rattle.ratio.specs.Refusal.{status_of, ratio_of, outcome_status}
 use Rattle.ratio.specs.Promise.{rat, Lowest}

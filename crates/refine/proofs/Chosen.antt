@@ -1,11 +1,10 @@
 -- The root of a bracket: each way it can be chosen.
-use mathlib.Core.Path.{◌≡◌, refl, sym, ap, ap₂, ◌∙◌}
-use mathlib.Core.Bool.{Bool, true, false}
+use mathlib.Core.Path.{◌≡◌, sym, ap₂, ◌∙◌}
+use mathlib.Core.Bool.{true, false}
 use mathlib.Core.List.{List}
-use lib.Ieee.{Float, binary64, of_bits, sub, lt, le, eq}
+use lib.Ieee.{Float, le}
 use Rattle.sturm.specs.Value.{horner}
 use Rattle.bisect.specs.declared.Bracket.{Bracket}
-use Rattle.refine.specs.declared.Root.{Root}
 use Rattle.refine.specs.declared.Root.TheVariants.{At, Nothing}
 use Rattle.refine.specs.Refine.{size_of, narrow, refine_of, halvings}
 use Rattle.refine.specs.Root.{is_nil, crosses_of, near_of, chosen, root_of}

@@ -1,5 +1,5 @@
 -- Document 01, module 6: refinement takes at most 200 halvings; it stops where the width is below the tolerance or the middle is a root in floats.
-use Rattle.std.specs.Prelude.{Bool, true, false, cond, List, ℕ, zero, suc, Float}
+use Rattle.std.specs.Prelude.{Bool, cond, List, ℕ, zero, suc, Float}
 use Rattle.std.specs.Float.{binary64}
 use Rattle.std.specs.Float.Ieee.{of_bits, neg, add, sub, mul, div, lt, eq}
 use Rattle.sturm.specs.Value.{horner}

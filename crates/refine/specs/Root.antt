@@ -1,5 +1,5 @@
 -- Document 01, module 6: the root of a bracket. A narrow bracket gives the end with the smaller value; then an end that is a root, a sign change refined, or an end whose value is below the tolerance. Floats may miss a root.
-use Rattle.std.specs.Prelude.{Bool, true, false, ◌&&◌, cond, List, Float}
+use Rattle.std.specs.Prelude.{Bool, ◌&&◌, cond, List, Float}
 use Rattle.std.specs.Float.{binary64}
 use Rattle.std.specs.Float.Ieee.{of_bits, mul, lt, le, eq}
 use Rattle.std.specs.Float.Ieee.Scale.{finite}
@@ -7,7 +7,6 @@ use Rattle.sturm.specs.Value.{horner}
 use Rattle.bisect.specs.declared.Bracket.{Bracket}
 use Rattle.refine.specs.declared.Root.{Root}
 use Rattle.refine.specs.declared.Root.TheVariants.{At, Nothing}
-use Rattle.refine.specs.declared.Side.{Side}
 use Rattle.refine.specs.Refine.{size_of, narrow, refine_of, halvings}
 
 abbrev pub crosses_of : Float → Float → Bool

@@ -1,6 +1,6 @@
 -- Document 01, module 4, gcd: divides until the remainder is zero, then scales by the inverse leading coefficient; the square-free part as the original makes it.
 use Rattle.std.specs.Prelude.{List, [], ◌∷◌, ℕ, zero, suc, length}
-use Rattle.terms.specs.Machine.{Ran, fine, over, and_then, Machine}
+use Rattle.terms.specs.Machine.{Ran, fine, and_then, Machine}
 use Rattle.terms.specs.Work.{scaled, derived}
 use Rattle.remainders.specs.Divide.{dropped, lead, divided}
 

@@ -18,7 +18,7 @@ use Rattle.ratio.specs.Gcd.{gcd_of, IsGcd}
 use Rattle.ratio.specs.Promise.{rat, Lowest, Fraction}
 use Rattle.ratio.specs.Range.{limit, Within}
 use Rattle.ratio.specs.Refusal.{zero_r, ratio_of}
-use Rattle.ratio.specs.Step.{new_of, lowest}
+use Rattle.ratio.specs.Step.{new_of}
 use Rattle.ratio.specs.declared.Ratio.{Ratio}
 use Rattle.ratio.specs.declared.Reason.{Reason}
 use Rattle.ratio.specs.declared.Step.{Step}

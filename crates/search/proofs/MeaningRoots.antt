@@ -12,7 +12,6 @@ use lib.IntN.{ℤ, pos, nat_abs}
 use lib.ListN.{length, take, drop, get_or, length-map}
 use lib.Seq.{take-suc, take_all}
 use Rattle.algebra.specs.Rational.{Rat, Same, whole, over}
-use Rattle.algebra.specs.Polynomial as P
 use Rattle.algebra.specs.Textbook.{IsRoot, HasDegree}
 use Rattle.algebra.proofs.Whole.{ℤ-ring}
 use Rattle.algebra.proofs.WholeDivides.{Dvdℤ}
@@ -28,7 +27,6 @@ use Rattle.ratio.specs.Refusal.{zero_r, outcome_status}
 use Rattle.ratio.specs.Step.{is_nil}
 use Rattle.ratio.specs.declared.Outcome.TheVariants as O
 use Rattle.ratio.specs.declared.Ratio.{Ratio}
-use Rattle.ratio.specs.declared.Step.TheVariants.{Done}
 use Rattle.ratio.proofs.Fractions.{nil-some}
 use Rattle.ratio.proofs.Words.{size_above}
 use Rattle.ratio.proofs.Steps.{zero-lowest, zero-value, new_is, new-done}

@@ -26,7 +26,7 @@ use Rattle.terms.proofs.MeaningValue.{valued-means}
 use Rattle.search.specs.Keep.{inserted}
 use Rattle.search.specs.Try.{Count, noted, kept_if, try_at, unless_zero, try_one, try_row, try_all}
 use Rattle.search.proofs.CodeInsert.{inserted-room}
-use Rattle.search.proofs.Kept.{All, each, Has, here, there, Sorted, Placed, placed-is}
+use Rattle.search.proofs.Kept.{All, Has, here, there, Sorted, Placed, placed-is}
 
 -- a list of roots, rising, in lowest terms
 pub record Good (Root : Ratio → Type 0) (kept : List Ratio) : Type 0 where

@@ -1,5 +1,5 @@
 -- Document 01, module 7: how a token is spelled: `c` and 16 hex digits, `v` and 0 to 255, `+`, `-`, `*`, `~`, `^` and 16 hex digits, `?`.
-use Rattle.std.specs.Prelude.{Bool, true, false, cond, List, [], ◌∷◌, ℕ, ◌+◌, ◌*◌, ◌-◌, ltb, eqb, length}
+use Rattle.std.specs.Prelude.{cond, List, [], ◌∷◌, ℕ, ◌+◌, ◌*◌, ◌-◌, ltb, eqb, length}
 use Rattle.std.specs.Float.{binary64}
 use Rattle.std.specs.Float.Ieee.{of_bits}
 use Rattle.tokens.specs.declared.Number.{Number}

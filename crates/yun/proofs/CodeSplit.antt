@@ -1,5 +1,5 @@
 -- What stands around the loop: the divisions by the gcd, the derivative, and the polynomial that stays whole.
-use mathlib.Core.Path.{◌≡◌, refl, ap, ◌∙◌}
+use mathlib.Core.Path.{◌≡◌, refl, ◌∙◌}
 use mathlib.Core.List.{List, [], ◌∷◌}
 use Prim.Native.Nat.{◌<◌, ◌≤◌}
 use native.Mathlib.Omega.{arith}
@@ -15,13 +15,9 @@ use Rattle.terms.specs.Answer.{answer_of}
 use Rattle.remainders.specs.declared.Division.{Division}
 use Rattle.remainders.specs.Gcd.{monic, gcd_of}
 use Rattle.remainders.specs.Answer.{divided_of}
-use Rattle.remainders.proofs.CodeAnswer.{done_refused}
 use Rattle.yun.specs.declared.Piece.{Piece}
-use Rattle.yun.specs.declared.Decomposition.{Decomposition}
 use Rattle.yun.specs.Got.{Got, got, none, then_got, list_from, parts_of}
-use Rattle.yun.specs.Round.{pushed}
 use Rattle.yun.specs.Yun.{rounds, unless_rest, split_by, sharing, split_of, found_or, square_frees}
-use Rattle.yun.specs.Answer.{found_all, decomposition_of}
 use Rattle.yun.proofs.CodeGot.{list-got, list-none, parts-got, parts_none}
 
 -- ---- a rest leaves it whole

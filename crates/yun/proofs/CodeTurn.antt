@@ -2,7 +2,7 @@
 use mathlib.Core.Path.{◌≡◌, refl, sym, ap, subst, ◌∙◌}
 use mathlib.Core.Bool.{true, false}
 use mathlib.Core.List.{List, [], ◌∷◌}
-use Prim.Native.Nat.{ℕ, suc, ◌<◌, ◌≤◌}
+use Prim.Native.Nat.{ℕ, ◌<◌, ◌≤◌}
 use native.Mathlib.Omega.{arith}
 use lib.ListN.{length}
 use Rattle.ratio.specs.declared.Outcome.TheVariants as O
@@ -19,7 +19,7 @@ use Rattle.remainders.specs.Gcd.{monic, gcd_of}
 use Rattle.remainders.specs.Answer.{divided_of}
 use Rattle.yun.specs.declared.Piece.{Piece}
 use Rattle.yun.specs.declared.Round.{Round}
-use Rattle.yun.specs.Got.{Got, got, none, list_from, parts_of}
+use Rattle.yun.specs.Got.{got, none, list_from}
 use Rattle.yun.specs.Round.{pushed, Turn, over, on, or_over, ended, factor_of, on_if, cut_by, met, turn_of}
 use Rattle.yun.specs.Answer.{over_with, Turns}
 use Rattle.yun.proofs.CodeGot.{list-got, list-none, parts-got, parts_none}

@@ -24,7 +24,7 @@ use Rattle.terms.proofs.MeaningSum.{derived-poly}
 use Rattle.terms.proofs.MeaningLowest.{derived-lowest}
 use Rattle.terms.proofs.MeaningCanonical.{Canonical, trim-canonical, canonical-degree}
 use Rattle.remainders.specs.Divide.{Split}
-use Rattle.remainders.specs.Gcd.{monic, gcd_of}
+use Rattle.remainders.specs.Gcd.{gcd_of}
 use Rattle.remainders.proofs.MeaningDivision.{cons-some}
 use Rattle.remainders.proofs.MeaningGcd.{Euclid}
 use Rattle.yun.specs.declared.Piece.{Piece}

@@ -1,5 +1,5 @@
 -- `bisect::bisect_isolate` meets its contract.
-use mathlib.Core.Path.{◌≡◌, sym, ap, ◌∙◌}
+use mathlib.Core.Path.{sym, ap, ◌∙◌}
 use mathlib.Core.List.{List}
 use Prim.Native.Nat.{◌≤◌}
 use borrow.Author.Rules.{rules}

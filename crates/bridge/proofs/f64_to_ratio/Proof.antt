@@ -2,7 +2,6 @@
 use Rattle.std.proofs.Common.{◌≡◌, ◌-◌, ◌≤◌, ℤ, pos, sym, refl, ap, ◌∙◌, arith, to_z-of_z, w64, to_z, of_z, rules}
 use borrow.Author.Tests.{not-true, not-false}
 use lib.Ieee.{Float, binary64, sub, mul, of_int}
-use lib.Ieee.Scale.{finite}
 use Rattle.bridge.specs.Round.{round_of}
 use Rattle.bridge.specs.Search.{small, scaled, near, over, first_from, to_ratio}
 use Rattle.bridge.proofs.Search.{not_finite, searched, first-at, first_next, first-none}

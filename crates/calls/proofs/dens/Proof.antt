@@ -1,6 +1,5 @@
 -- `calls::dens` meets its contract. The loop's invariant: the first i stand in the array.
 use mathlib.Core.Path.{◌≡◌, refl, sym, ◌∙◌}
-use mathlib.Core.List.{map}
 use Prim.Native.Nat.{◌≤◌, ◌-◌}
 use native.Mathlib.Omega.{arith}
 use lib.ListN.{length, take, get_or, length-map, length-set, get_or-map}

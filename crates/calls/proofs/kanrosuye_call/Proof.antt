@@ -1,5 +1,5 @@
 -- `calls::kanrosuye_call` meets its contract.
-use mathlib.Core.Path.{◌≡◌, sym, ap, ◌∙◌}
+use mathlib.Core.Path.{sym, ap, ◌∙◌}
 use Rattle.ratio.specs.declared.Outcome.{Outcome}
 use Rattle.remainders.specs.declared.Division.{Division}
 use Rattle.calls.specs.Call.{called_of, nums_of, dens_of, number_told}

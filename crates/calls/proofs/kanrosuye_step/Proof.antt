@@ -1,6 +1,5 @@
 -- `calls::kanrosuye_step` meets its contract.
-use mathlib.Core.Path.{◌≡◌, sym, ◌∙◌}
-use mir.Facts.{to_z-of_z}
+use mathlib.Core.Path.{sym, ◌∙◌}
 use Rattle.calls.proofs.Telling.{step-read, step-done, step-lent, step-refused, step_kept}
 use borrow.Author.Rules.{rules}
 use Rattle.calls.proofs.kanrosuye_step.Statement.{statement}

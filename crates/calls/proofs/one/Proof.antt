@@ -1,7 +1,7 @@
 -- `calls::one` meets its contract.
 use mathlib.Core.Path.{ap, ◌∙◌}
 use borrow.Author.Tests.{eq-eqb, ne_eqb}
-use Rattle.calls.specs.Call.{told_answer, told_whole, told_step}
+use Rattle.calls.specs.Call.{told_answer, told_whole}
 use borrow.Author.Rules.{rules}
 use Rattle.calls.proofs.one.Statement.{statement}
 use Rattle.calls.proofs.one.Tie as tie

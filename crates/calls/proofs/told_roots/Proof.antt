@@ -2,7 +2,7 @@
 use mathlib.Core.Path.{ap, ◌∙◌}
 use Prim.Native.Nat.{◌%◌}
 use native.Mathlib.Omega.{arith}
-use lib.IntN.{ℤ, pos}
+use lib.IntN.{ℤ}
 use Rattle.terms.specs.declared.Poly.{Poly}
 use Rattle.terms.specs.Machine.{whole_r}
 use Rattle.ratio.proofs.Words.{size_back}

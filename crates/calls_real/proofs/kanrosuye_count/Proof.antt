@@ -2,7 +2,6 @@
 use Rattle.sturm.specs.declared.Count.{Count}
 use Rattle.calls.proofs.Telling.{told-number}
 use Rattle.calls_real.specs.Real.{counted_of}
-use borrow.Author.Rules.{rules}
 use Rattle.calls_real.proofs.kanrosuye_count.Statement.{statement}
 use Rattle.calls_real.proofs.kanrosuye_count.Tie as tie
 

@@ -1,6 +1,5 @@
 -- `calls_real::kanrosuye_to_lowered` meets its contract.
 use mathlib.Core.Path.{◌≡◌, refl, ap, ap₂, ◌∙◌}
-use mathlib.Core.List.{List}
 use Prim.Native.Nat.{ℕ}
 use Rattle.ratio.specs.declared.Outcome.{Outcome}
 use Rattle.terms.specs.declared.Answer.{Answer}

@@ -1,6 +1,5 @@
 -- `calls_real::kanrosuye_to_ratio` meets its contract.
 use mathlib.Core.Path.{sym, ◌∙◌}
-use mir.Facts.{to_z-of_z}
 use Rattle.calls.proofs.Telling.{step-done, step-lent, step-refused, step_kept}
 use borrow.Author.Rules.{rules}
 use Rattle.calls_real.proofs.kanrosuye_to_ratio.Statement.{statement}

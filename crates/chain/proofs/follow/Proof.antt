@@ -1,10 +1,9 @@
 -- `chain::follow` meets its contract. The loop's invariant: what is left of the chain, behind what is found, gives the whole of it.
-use mathlib.Core.Path.{refl, ap, ◌∙◌}
+use mathlib.Core.Path.{refl, ◌∙◌}
 use Prim.Native.Nat.{◌<◌}
 use native.Mathlib.Omega.{arith}
 use lib.ListN.{length}
 use Rattle.terms.specs.Poly.{terms_of}
-use Rattle.chain.specs.declared.Chain.{Chain}
 use Rattle.chain.proofs.CodeFollow.{Going, going-none, going_end, going-room, going-refused, going-short, going_more}
 use Rattle.chain.proofs.follow.Statement.{statement}
 use Rattle.chain.proofs.follow.Tie as tie

@@ -1,16 +1,12 @@
 -- `divisors::entry_at` meets its contract: entry k of the divisor i.
-use mathlib.Core.Path.{◌≡◌, refl, sym, ap, ap₂, ◌∙◌}
-use Prim.Native.Nat.{ℕ, zero, suc, ◌/◌, ◌<◌, ◌≤◌}
+use mathlib.Core.Path.{ap, ◌∙◌}
+use Prim.Native.Nat.{◌/◌}
 use native.Mathlib.Nat.{div-le_self, le_trans}
 use native.Mathlib.Omega.{arith}
 use borrow.Author.Rules.{rules}
-use borrow.Author.Tests.{eq-eqb, ne_eqb}
 use lib.IntN.{pos}
 use Rattle.ratio.proofs.Words.{fits, size_back, size-neg-fits, size-neg-back}
-use Rattle.divisors.specs.declared.Entry.{Entry}
-use Rattle.divisors.specs.declared.Entry.TheVariants.{Is, Nothing}
-use Rattle.divisors.specs.Listing.{entries}
-use Rattle.divisors.specs.Walk.{entry_of}
+use Rattle.divisors.specs.declared.Entry.TheVariants.{Is}
 use Rattle.divisors.proofs.Words.{square_le}
 use Rattle.divisors.proofs.Entries.{entry-0, entry-1, entry-root, entry-2, entry-3, entry-end}
 use Rattle.divisors.proofs.entry_at.Statement.{statement}

@@ -1,5 +1,5 @@
 -- `divisors::entry_here` meets its contract.
-use mathlib.Core.Path.{◌≡◌, sym, ap, ◌∙◌}
+use mathlib.Core.Path.{sym, ap, ◌∙◌}
 use mathlib.Core.Bool.{true, false}
 use Prim.Native.Nat.{◌+◌, ◌/◌, ◌%◌}
 use borrow.Author.Rules.{rules}

@@ -5,7 +5,7 @@ use borrow.Author.Rules.{rules}
 use borrow.Author.Tests.{le-leb, eq-eqb, ne_eqb}
 use Rattle.divisors.proofs.Words.{square_le, above_root}
 use Rattle.divisors.specs.Marks.{digit}
-use mathlib.Core.Path.{◌≡◌, sym, ap}
+use mathlib.Core.Path.{sym, ap}
 use Rattle.divisors.proofs.mark.Statement.{statement}
 use Rattle.divisors.proofs.mark.Tie as tie
 

@@ -1,13 +1,9 @@
 -- `divisors::mark_all` meets its contract. The invariant: the words before w are made, the others are 0.
-use mathlib.Core.Path.{◌≡◌, refl, sym, ap, ◌∙◌}
-use Prim.Native.Nat.{ℕ, ◌+◌, ◌-◌, ◌*◌, ◌≤◌, ◌<◌}
+use Prim.Native.Nat.{◌+◌, ◌-◌, ◌*◌, ◌≤◌}
 use native.Mathlib.Omega.{arith}
 use Rattle.divisors.proofs.Words.{Filled, filled_none, filled_more, complete, square_le}
 use Rattle.divisors.proofs.mark_all.Statement.{statement}
 use Rattle.divisors.proofs.mark_all.Tie as tie
-use Rattle.divisors.proofs.mark_all.Reads as reads
-use Rattle.divisors.proofs.mark_all.Lts as lts
-use Rattle.divisors.proofs.mark_word.Reads as mark-word-reads
 
 abbrev invariant-loop : tie.invariant-loop-w
 invariant-loop n marks₀ w₀ marks w = (w ≤ 1024) × Filled n w marks

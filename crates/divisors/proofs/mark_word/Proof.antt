@@ -1,6 +1,6 @@
 -- `divisors::mark_word` meets its contract. The invariant: the word so far is that of the numbers from first + left on.
-use mathlib.Core.Path.{◌≡◌, refl, sym, ap, ap₂, ◌∙◌}
-use Prim.Native.Nat.{◌+◌, ◌-◌, ◌*◌, ◌≤◌, ◌<◌, ◌^◌}
+use mathlib.Core.Path.{◌≡◌, sym, ap₂, ◌∙◌}
+use Prim.Native.Nat.{◌+◌, ◌-◌, ◌*◌, ◌≤◌}
 use native.Mathlib.Omega.{arith}
 use Rattle.divisors.specs.Listing.{is_small}
 use Rattle.divisors.specs.Marks.{word_from}

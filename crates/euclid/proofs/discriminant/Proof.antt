@@ -1,5 +1,5 @@
 -- `euclid::discriminant` meets its contract.
-use mathlib.Core.Path.{◌≡◌, ap, ◌∙◌}
+use mathlib.Core.Path.{ap, ◌∙◌}
 use Rattle.euclid.specs.Answer.{no_whole, whole_from}
 use Rattle.poly.proofs.Doors.{open-entered, shut-entered}
 use Rattle.euclid.proofs.Discriminants.{discriminant-both}

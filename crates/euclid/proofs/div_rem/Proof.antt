@@ -1,5 +1,5 @@
 -- `euclid::div_rem` meets its contract.
-use mathlib.Core.Path.{◌≡◌, ap, ap₂, ◌∙◌}
+use mathlib.Core.Path.{◌≡◌, ap₂, ◌∙◌}
 use Rattle.poly.specs.Door.{door_of, both}
 use Rattle.poly.proofs.Doors.{open-entered, shut-entered}
 use Rattle.remainders.specs.Answer.{no_division}

@@ -1,5 +1,5 @@
 -- `euclid::gcd` meets its contract.
-use mathlib.Core.Path.{◌≡◌, ap, ap₂, ◌∙◌}
+use mathlib.Core.Path.{◌≡◌, ap₂, ◌∙◌}
 use Rattle.poly.specs.Door.{door_of, both}
 use Rattle.poly.proofs.Doors.{open-answer, shut-answer}
 use Rattle.euclid.proofs.Gcds.{gcd-both}

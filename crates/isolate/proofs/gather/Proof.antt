@@ -1,5 +1,5 @@
 -- `isolate::gather` meets its contract.
-use mathlib.Core.Path.{◌≡◌, sym, ap, ◌∙◌}
+use mathlib.Core.Path.{sym, ap, ◌∙◌}
 use mathlib.Core.List.{List, []}
 use Prim.Native.Nat.{◌≤◌}
 use lib.Ieee.{Float}

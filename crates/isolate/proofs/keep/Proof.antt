@@ -1,5 +1,5 @@
 -- `isolate::keep` meets its contract.
-use mathlib.Core.Path.{sym, ap, ◌∙◌}
+use mathlib.Core.Path.{ap, ◌∙◌}
 use native.Mathlib.Omega.{arith}
 use Rattle.isolate.specs.Answer.{roots_in, holding}
 use Rattle.isolate.proofs.Hold.{kept-len}

@@ -2,7 +2,6 @@
 use mathlib.Core.Path.{ap, ◌∙◌}
 use Rattle.request.specs.declared.Request.{Request}
 use Rattle.job.specs.Run.{place_in}
-use borrow.Author.Rules.{rules}
 use Rattle.job.proofs.kanrosuye_place.Statement.{statement}
 use Rattle.job.proofs.kanrosuye_place.Tie as tie
 

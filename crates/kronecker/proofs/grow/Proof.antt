@@ -1,6 +1,5 @@
 -- `kronecker::grow` meets its contract. The loop's invariant: the combinations and divisors that are left give the whole.
 use mir.Facts.{to_z-of_z}
-use mathlib.Core.List.{List}
 use mathlib.Core.Path.{◌≡◌, refl, ap, ◌∙◌}
 use borrow.Author.Rules.{rules}
 use Prim.Native.Nat.{◌+◌, ◌-◌, ◌<◌, ◌≤◌}
@@ -9,7 +8,6 @@ use native.Mathlib.Omega.{arith}
 use lib.ListN.{length, set, length-set}
 use lib.Seq.{take-suc-set}
 use Rattle.terms.specs.Machine.{whole_r}
-use Rattle.terms.proofs.Lists.{long}
 use Rattle.divisors.specs.Walk.{rest}
 use Rattle.kronecker.specs.declared.Combinations.{Combinations}
 use Rattle.kronecker.specs.Combinations.{Stored, rows_of}

@@ -3,7 +3,6 @@ use mathlib.Core.Path.{sym, ap, ◌∙◌}
 use native.Mathlib.Omega.{arith}
 use Rattle.terms.specs.Poly.{terms_of}
 use Rattle.terms.specs.declared.Poly.{Poly}
-use lib.ListN.{length}
 use borrow.Author.Tests.{not-true, not-false}
 use Rattle.kronecker.specs.declared.Split.{Split}
 use Rattle.kronecker.specs.declared.Verdict.TheVariants.{Found}

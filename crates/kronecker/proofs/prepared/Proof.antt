@@ -2,7 +2,6 @@
 use mathlib.Core.Path.{◌≡◌, subst, ◌∙◌}
 use Prim.Native.Nat.{ℕ, ◌-◌, ◌≤◌}
 use native.Mathlib.Omega.{arith}
-use borrow.Author.Rules.{rules}
 use lib.ListN.{length, length-set, length-replicate}
 use Rattle.kronecker.specs.declared.Basis.{Basis}
 use Rattle.kronecker.specs.Interpolation.{Serving}

@@ -1,6 +1,6 @@
 -- `refine::crosses` meets its contract.
 use mathlib.Core.Path.{ap, ap₂, sym, ◌∙◌}
-use mathlib.Core.Bool.{Bool, true, false, ◌&&◌}
+use mathlib.Core.Bool.{Bool, ◌&&◌}
 use borrow.Author.Tests.{not-true, not-false}
 use lib.Ieee.{binary64, of_bits, mul, lt}
 use lib.Ieee.Scale.{finite}

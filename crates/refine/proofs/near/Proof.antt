@@ -1,6 +1,6 @@
 -- `refine::near` meets its contract.
 use mathlib.Core.Path.{ap, ap₂, sym, ◌∙◌}
-use mathlib.Core.Bool.{Bool, true, ◌&&◌}
+use mathlib.Core.Bool.{Bool, ◌&&◌}
 use lib.Ieee.{Float, lt}
 use Rattle.refine.specs.Refine.{size_of}
 use Rattle.refine.proofs.near.Statement.{statement}

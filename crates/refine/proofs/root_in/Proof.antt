@@ -1,6 +1,5 @@
 -- `refine::root_in` meets its contract.
 use mathlib.Core.Path.{◌≡◌, sym, ap, ap₂, ◌∙◌}
-use mathlib.Core.Bool.{Bool}
 use lib.Ieee.{Float, lt, le}
 use Rattle.refine.specs.declared.Root.TheVariants.{At}
 use Rattle.refine.specs.Refine.{narrow}

@@ -1,5 +1,5 @@
 -- `replay::natural` is safe and ends.
-use Prim.Native.Nat.{◌≤◌, ◌-◌}
+use Prim.Native.Nat.{◌-◌}
 use native.Mathlib.Omega.{arith}
 use Rattle.replay.proofs.natural.Statement.{statement}
 use Rattle.replay.proofs.natural.Tie as tie

@@ -2,7 +2,6 @@
 use mathlib.Core.Path.{◌≡◌, sym, ap₂, subst, ◌∙◌}
 use mathlib.Core.Bool.{Bool, true, false}
 use Prim.Native.Nat.{◌≤◌}
-use borrow.Author.Rules.{rules}
 use lib.ListN.{length}
 use Rattle.text.specs.Ascii.{bytes}
 use Rattle.request.specs.declared.Cursor.{Cursor}

@@ -1,7 +1,6 @@
 -- `request::op_of_one` meets its contract.
 use mathlib.Core.Path.{◌≡◌, sym, ◌∙◌}
 use mathlib.Core.Bool.{false}
-use borrow.Author.Rules.{rules}
 use Rattle.ops.specs.declared.Op.TheVariants.{Neg, Diff, Discriminant, Roots, Factor, Rebuild}
 use Rattle.ops.specs.Op.{name_of}
 use Rattle.request.specs.Ops.{is_name, op_of_one}

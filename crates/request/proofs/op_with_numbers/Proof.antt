@@ -1,7 +1,6 @@
 -- `request::op_with_numbers` meets its contract.
 use mathlib.Core.Path.{◌≡◌, sym, ◌∙◌}
 use mathlib.Core.Bool.{false}
-use borrow.Author.Rules.{rules}
 use Rattle.ops.specs.declared.Op.TheVariants.{Eval, Count, Isolate}
 use Rattle.ops.specs.Op.{name_of}
 use Rattle.request.specs.Ops.{is_name, op_with_numbers}

@@ -1,6 +1,4 @@
 -- `sturm::floats` meets its contract.
-use mathlib.Core.Path.{◌≡◌, ◌∙◌}
-use native.Mathlib.Omega.{arith}
 use borrow.Author.Rules.{rules}
 use Rattle.terms.specs.Poly.{terms_of}
 use Rattle.sturm.specs.Value.{floats_of}

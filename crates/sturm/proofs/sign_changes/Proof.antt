@@ -1,5 +1,5 @@
 -- `sturm::sign_changes` meets its contract. The loop's invariant: what was counted and what is left of the walk give all changes.
-use mathlib.Core.Path.{◌≡◌, refl}
+use mathlib.Core.Path.{refl}
 use Prim.Native.Nat.{◌≤◌, ◌-◌}
 use native.Mathlib.Omega.{arith}
 use lib.ListN.{length}

@@ -1,9 +1,8 @@
 -- `terms::row_for` meets its contract: what `add_row` requires is tested.
-use mathlib.Core.Path.{◌≡◌, sym, ap, ◌∙◌}
+use mathlib.Core.Path.{sym, ap, ◌∙◌}
 use mathlib.Core.Bool.{Bool}
-use Prim.Native.Nat.{ℕ, ◌+◌, ◌≤◌, ◌<◌}
+use Prim.Native.Nat.{◌≤◌}
 use native.Mathlib.Omega.{arith}
-use lib.ListN.{length, take, length-take}
 use borrow.Author.Rules.{rules}
 use Rattle.terms.specs.Poly.{terms_of}
 use Rattle.terms.specs.Machine.{plain}

@@ -1,5 +1,4 @@
 -- `yun::cut` meets its contract.
-use mathlib.Core.Path.{refl}
 use native.Mathlib.Omega.{arith}
 use Rattle.terms.specs.Poly.{terms_of}
 use Rattle.yun.specs.Round.{factor_of, cut_by}
