@@ -1,6 +1,6 @@
 /* Kanrosuye: exact polynomials with a price on them, proved.
  *
- * The library for kiosks: `rt staticlib job` writes target/staticlib/libjob.a.
+ * The library for kiosks: `tools/staticlib job` writes target/staticlib/libjob.a.
  * No function allocates, keeps state or calls the operating system; each may be called from any thread
  * that has 2 MiB of stack. What each returns, and every byte it writes, is proved for all inputs.
  */

@@ -1,4 +1,4 @@
-//! Links the static libraries `calls`, `calls_real` and, once it is there, `job`, which `rt staticlib` has written.
+//! Links the static libraries `calls`, `calls_real` and `job`, which `tools/staticlib` has written.
 fn main() {
     let here = std::env::var("CARGO_MANIFEST_DIR").expect("cargo sets it");
     println!("cargo:rustc-link-search=native={here}/../target/staticlib");

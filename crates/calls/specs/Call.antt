@@ -21,7 +21,7 @@ use Rattle.remainders.specs.declared.Division.{Division}
 use Rattle.remainders.specs.Answer.{no_division}
 use Rattle.euclid.specs.declared.Whole.{Whole}
 use Rattle.search.specs.declared.Roots.{Roots}
-use Rattle.roots.specs.Answer.{budget_oroor, rational_roots_of}
+use Rattle.roots.specs.Answer.{budget_door, rational_roots_of}
 use Rattle.roots.specs.Content.{content_for, primitive_of}
 use Rattle.yun.specs.declared.Decomposition.{Decomposition}
 use Rattle.yun.specs.declared.Piece.{Piece}
@@ -134,7 +134,7 @@ open_unless false d = d
 
 -- the operations 9, 10 and 11 take a budget
 abbrev pub limits_of : ℕ → ℕ → Gate
-limits_of op n = open_unless (ltb op 9) (open_unless (ltb 11 op) (budget_oroor n))
+limits_of op n = open_unless (ltb op 9) (open_unless (ltb 11 op) (budget_door n))
 
 -- 5, then 4, comes before any work
 abbrev pub called_with : ℕ → Answer → Answer → ℕ → Division

@@ -35,7 +35,7 @@ use Rattle.poly.specs.Promise.{reading}
 use Rattle.poly.proofs.Canonical.{Opened, opened, open-poly, both-open}
 use Rattle.poly.proofs.Gives.{number-some}
 use Rattle.euclid.proofs.Doors.{entered-keeps}
-use Rattle.roots.specs.Answer.{budget_oroor}
+use Rattle.roots.specs.Answer.{budget_door}
 use Rattle.roots.specs.Content.{content_for, primitive_of}
 use Rattle.roots.specs.ContentPromise.{MultipleOf, PrimitivePromise}
 use Rattle.roots.proofs.Contents.{content-promise}
@@ -249,8 +249,8 @@ module _ (p : Poly) (budget : ℕ) (o : Opened p) where
 
 pub factor-promise : (p : Poly) (budget : ℕ) → FactorPromise p (factor_for p budget)
 factor-promise p budget =
-    entered-keeps no_factors (FactorPromise p) (both (door_of p) (budget_oroor budget)) (work_of p budget)
-    (λ e. work-promise p budget (opened p (both-open (door_of p) (budget_oroor budget) e).0) (content_for p) refl)
+    entered-keeps no_factors (FactorPromise p) (both (door_of p) (budget_door budget)) (work_of p budget)
+    (λ e. work-promise p budget (opened p (both-open (door_of p) (budget_door budget) e).0) (content_for p) refl)
     (λ h why. refused-promise p why)
 
 pub factor-both : (p : Poly) (budget : ℕ) (r : Factorization) → r ≡ factor_for p budget → (r ≡ factor_for p budget) × FactorPromise p r
@@ -261,9 +261,9 @@ open-content : (p : Poly) (s : Step) → content_for p ≡ s → (r : Factorizat
 open-content p s f r h e d = subst Lowest (sym e) ((content-promise p).lowest ((content-promise p).answered d))
 
 pub content-is-lowest : (p : Poly) (budget : ℕ) → outcome_status (factor_for p budget).outcome ≡ 0 → Lowest (factor_for p budget).content
-content-is-lowest p budget = entered-keeps no_factors (λ r. outcome_status r.outcome ≡ 0 → Lowest r.content) (both (door_of p) (budget_oroor budget)) (work_of p budget)
+content-is-lowest p budget = entered-keeps no_factors (λ r. outcome_status r.outcome ≡ 0 → Lowest r.content) (both (door_of p) (budget_door budget)) (work_of p budget)
     (λ e h.
-    let d = (both-open (door_of p) (budget_oroor budget) e).0 in
+    let d = (both-open (door_of p) (budget_door budget) e).0 in
     open-content p (content_for p) refl (work_of p budget) h ((work-promise p budget (opened p d) (content_for p) refl).content h) d)
     (λ n why h. absurd (no-status why h))
 

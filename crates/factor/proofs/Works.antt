@@ -16,7 +16,7 @@ use Rattle.terms.specs.Poly.{terms_of}
 use Rattle.poly.specs.declared.Gate.{Gate}
 use Rattle.poly.specs.declared.Gate.TheVariants.{Open, Long, Bad}
 use Rattle.poly.specs.Door.{door_of, both, entered}
-use Rattle.roots.specs.Answer.{budget_oroor}
+use Rattle.roots.specs.Answer.{budget_door}
 use Rattle.roots.specs.Content.{content_for, primitive_of}
 use Rattle.yun.specs.declared.Decomposition.{Decomposition}
 use Rattle.yun.specs.declared.Piece.{Piece}
@@ -96,7 +96,7 @@ assembled-by Open (S.Refused why) l = refl
 assembled-by Long s l = refl
 assembled-by Bad s l = refl
 
-module _ (p : Poly) (budget : ℕ) (g : Gate) (e : g ≡ both (door_of p) (budget_oroor budget)) (s : Step) (f : s ≡ content_behind g p) where
+module _ (p : Poly) (budget : ℕ) (g : Gate) (e : g ≡ both (door_of p) (budget_door budget)) (s : Step) (f : s ≡ content_behind g p) where
   pub assembled-is : (d : Decomposition) → d ≡ factors_behind s p budget → (c : Ratio) → c ≡ content_with d.outcome s → assembled d c ≡ factor_for p budget
   assembled-is d h c k =
       ap (assembled d) k

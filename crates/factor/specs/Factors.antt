@@ -13,7 +13,7 @@ use Rattle.terms.specs.declared.Poly.{Poly}
 use Rattle.terms.specs.Poly.{terms_of}
 use Rattle.poly.specs.declared.Gate.{Gate}
 use Rattle.poly.specs.Door.{door_of, both, entered}
-use Rattle.roots.specs.Answer.{budget_oroor}
+use Rattle.roots.specs.Answer.{budget_door}
 use Rattle.roots.specs.Content.{content_for, primitive_of}
 use Rattle.yun.specs.declared.Decomposition.{Decomposition}
 use Rattle.yun.specs.declared.Piece.{Piece}
@@ -56,7 +56,7 @@ abbrev pub work_of : Poly → ℕ → Factorization
 work_of p budget = with_content (content_for p) (factors_of p budget)
 
 abbrev pub factor_for : Poly → ℕ → Factorization
-factor_for p budget = entered no_factors (both (door_of p) (budget_oroor budget)) (work_of p budget)
+factor_for p budget = entered no_factors (both (door_of p) (budget_door budget)) (work_of p budget)
 
 -- ---- the same with one way out
 

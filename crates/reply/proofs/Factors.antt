@@ -26,7 +26,7 @@ use Rattle.poly.specs.Promise.{reading}
 use Rattle.poly.proofs.Canonical.{opened, both-open}
 use Rattle.poly.proofs.Gives.{number-some}
 use Rattle.euclid.proofs.Doors.{entered-keeps}
-use Rattle.roots.specs.Answer.{budget_oroor}
+use Rattle.roots.specs.Answer.{budget_door}
 use Rattle.yun.specs.declared.Piece.{Piece}
 use Rattle.yun.specs.Promise.{degree_of, degrees, Every}
 use Rattle.factor.specs.declared.Factorization.{Factorization}
@@ -63,8 +63,8 @@ few-some f n l e h o = let r = spread (factors_in f) h o in record { pieces = om
 
 answered-open : (p : Poly) (budget : ℕ) → outcome_status (factor_for p budget).outcome ≡ 0 → door_of p ≡ Open
 answered-open p budget =
-    entered-keeps no_factors (λ r. outcome_status r.outcome ≡ 0 → door_of p ≡ Open) (both (door_of p) (budget_oroor budget)) (work_of p budget)
-    (λ e s. (both-open (door_of p) (budget_oroor budget) e).0)
+    entered-keeps no_factors (λ r. outcome_status r.outcome ≡ 0 → door_of p ≡ Open) (both (door_of p) (budget_door budget)) (work_of p budget)
+    (λ e s. (both-open (door_of p) (budget_door budget) e).0)
     (λ h why s. absurd (omega (arith, number-some why)))
 
 module _ (p : Poly) (f : Factorization) (h : FactorPromise p f) (s : outcome_status f.outcome ≡ 0) where

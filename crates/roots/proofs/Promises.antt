@@ -32,7 +32,7 @@ use Rattle.search.specs.Try.{Count}
 use Rattle.search.proofs.Kept.{has-at, all-at, sorted-at, sorted-different, member}
 use Rattle.search.proofs.MeaningAnswer.{run_of, Ended, early, ran, ended, Found, roots-found, empty_of, roots-none}
 use Rattle.search.proofs.PriceSearch.{roots-priced}
-use Rattle.roots.specs.Answer.{budget_oroor, rational_roots_of}
+use Rattle.roots.specs.Answer.{budget_door, rational_roots_of}
 use Rattle.roots.specs.Promise.{entry, Stands, RootsPromise}
 
 -- ---- a refusal has no entry
@@ -93,7 +93,7 @@ module _ (p : Poly) (budget : ℕ) where
   abbrev F : List Ratio
   F = terms_of p
 
-  refused-roots : (both (door_of p) (budget_oroor budget) ≡ Open → ⊥) → (why : Reason) → RootsPromise p budget (no_roots why 0 0)
+  refused-roots : (both (door_of p) (budget_door budget) ≡ Open → ⊥) → (why : Reason) → RootsPromise p budget (no_roots why 0 0)
   refused-roots shut why = record {
     sound = λ h s. absurd (never_done why s);
     complete = λ h s. absurd (never_done why s);
@@ -155,8 +155,8 @@ module _ (p : Poly) (budget : ℕ) where
     }
 
 pub roots-promise : (p : Poly) (budget : ℕ) → RootsPromise p budget (rational_roots_of p budget)
-roots-promise p budget = entered-keeps (λ why. no_roots why 0 0) (RootsPromise p budget) (both (door_of p) (budget_oroor budget)) (roots_of (terms_of p) budget)
-    (λ e. open-roots p budget (opened p (both-open (door_of p) (budget_oroor budget) e).0)) (refused-roots p budget)
+roots-promise p budget = entered-keeps (λ why. no_roots why 0 0) (RootsPromise p budget) (both (door_of p) (budget_door budget)) (roots_of (terms_of p) budget)
+    (λ e. open-roots p budget (opened p (both-open (door_of p) (budget_door budget) e).0)) (refused-roots p budget)
 
 pub roots-both : (p : Poly) (budget : ℕ) (r : Roots) → r ≡ rational_roots_of p budget → (r ≡ rational_roots_of p budget) × RootsPromise p budget r
 roots-both p budget r e = (e, subst (RootsPromise p budget) (sym e) (roots-promise p budget))

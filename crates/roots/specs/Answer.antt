@@ -10,8 +10,8 @@ use Rattle.search.specs.Answer.{no_roots, roots_of}
 abbrev pub is_budget : ℕ → Bool
 is_budget budget = not (eqb budget 0) && not (ltb 65536 budget)
 
-abbrev pub budget_oroor : ℕ → Gate
-budget_oroor budget = open_if (is_budget budget)
+abbrev pub budget_door : ℕ → Gate
+budget_door budget = open_if (is_budget budget)
 
 abbrev pub rational_roots_of : Poly → ℕ → Roots
-rational_roots_of p budget = entered (λ why. no_roots why 0 0) (both (door_of p) (budget_oroor budget)) (roots_of (terms_of p) budget)
+rational_roots_of p budget = entered (λ why. no_roots why 0 0) (both (door_of p) (budget_door budget)) (roots_of (terms_of p) budget)

@@ -15,7 +15,7 @@ use Rattle.divisors.specs.Promise.{Root}
 use Rattle.search.specs.declared.Roots.{Roots}
 use Rattle.roots.specs.declared.Quote.{Quote}
 use Rattle.roots.specs.declared.Quote.TheVariants.{Most, Refused}
-use Rattle.roots.specs.Answer.{budget_oroor, rational_roots_of}
+use Rattle.roots.specs.Answer.{budget_door, rational_roots_of}
 use Rattle.roots.specs.Quote.{candidates_price}
 
 -- entry i of a list of roots
@@ -35,7 +35,7 @@ pub record RootsPromise (p : Poly) (budget : ℕ) (r : Roots) : Type 0 where
   pub lowest : (i : ℕ) → i < r.len → Lowest (entry r i)
   -- a refusal has no entry; the zero polynomial is answered and has none, and nothing is tried
   pub refused : (outcome_status r.outcome ≡ 0 → ⊥) → r.len ≡ 0
-  pub of_zero : door_of p ≡ Open → budget_oroor budget ≡ Open → IsZero (reading p) → (outcome_status r.outcome ≡ 0) × (r.len ≡ 0) × (r.tried ≡ 0)
+  pub of_zero : door_of p ≡ Open → budget_door budget ≡ Open → IsZero (reading p) → (outcome_status r.outcome ≡ 0) × (r.len ≡ 0) × (r.tried ≡ 0)
   -- no more than the degree
   pub few : (n : ℕ) → HasDegree (reading p) n → r.len ≤ n
   pub candidates : r.tried ≤ candidates_price budget
@@ -47,4 +47,4 @@ pub record QuotesRoots (n budget : ℕ) (q : Quote) : Type 0 where
   -- a listing of a tries the numbers up to the root of its size; a search makes two
   pub trials : (a b : ℤ) → outcome_status (listing_of a budget).outcome ≡ 0 → outcome_status (listing_of b budget).outcome ≡ 0
       → (x y : ℕ) → Root (nat_abs a) x → Root (nat_abs b) y → (t c s : ℕ) → q ≡ Most t c s → x + y ≤ t
-  pub quoted : (p : Poly) → door_of p ≡ Open → budget_oroor budget ≡ Open → HasDegree (reading p) n → (why : Reason) → q ≡ Refused why → ⊥
+  pub quoted : (p : Poly) → door_of p ≡ Open → budget_door budget ≡ Open → HasDegree (reading p) n → (why : Reason) → q ≡ Refused why → ⊥

@@ -6,7 +6,7 @@ ghost use Rattle.ratio.specs.Step.{inv_of};
 ghost use Rattle.terms.specs.Poly.{terms_of};
 ghost use Rattle.poly.specs.declared.Gate.TheVariants.{Open};
 ghost use Rattle.poly.specs.Door.{door_of};
-ghost use Rattle.roots.specs.Answer.{budget_oroor, rational_roots_of};
+ghost use Rattle.roots.specs.Answer.{budget_door, rational_roots_of};
 ghost use Rattle.roots.specs.Promise.{RootsPromise, QuotesRoots};
 ghost use Rattle.roots.specs.ContentPromise.{ContentPromise, PrimitivePromise};
 ghost use Rattle.roots.specs.Content.{denominator_of, content_of, content_for, is_below, upright, over_content, primitive_of};
@@ -19,7 +19,7 @@ use terms::{Answer, Poly};
 
 // Document 01's limits of a budget.
 pub fn door_of_budget(budget: u64) -> Gate
-    ensures is { result ≡ budget_oroor budget }
+    ensures is { result ≡ budget_door budget }
 {
     if budget == 0 {
         Gate::Bad

@@ -1,13 +1,13 @@
 -- `factor::factor` meets its contract.
 use mathlib.Core.Path.{◌≡◌, ap₂, ◌∙◌}
 use Rattle.poly.specs.Door.{door_of, both}
-use Rattle.roots.specs.Answer.{budget_oroor}
+use Rattle.roots.specs.Answer.{budget_door}
 use Rattle.factor.proofs.Promises.{factor-both}
 use Rattle.factor.proofs.Works.{assembled-is}
 use Rattle.factor.proofs.factor.Statement.{statement}
 use Rattle.factor.proofs.factor.Tie as tie
 
-gate : (c : tie.After-both-d) → c.both-d.result ≡ both (door_of c.args.p) (budget_oroor c.args.budget)
+gate : (c : tie.After-both-d) → c.both-d.result ≡ both (door_of c.args.p) (budget_door c.args.budget)
 gate c = c.both-d.ensures ∙ ap₂ both c.door.ensures c.door_of_budget.ensures
 
 door-requires : tie.Need-door-requires

@@ -3,7 +3,7 @@ use mathlib.Core.Path.{◌≡◌, ap₂, ◌∙◌}
 use Rattle.poly.specs.Door.{door_of, both}
 use Rattle.poly.proofs.Doors.{open-entered, shut-entered}
 use Rattle.search.specs.Answer.{no_roots}
-use Rattle.roots.specs.Answer.{budget_oroor}
+use Rattle.roots.specs.Answer.{budget_door}
 use Rattle.roots.proofs.Promises.{roots-both}
 use Rattle.roots.proofs.rational_roots.Statement.{statement}
 use Rattle.roots.proofs.rational_roots.Tie as tie
@@ -29,7 +29,7 @@ reason-requires c κs = tt
 no-roots-requires : tie.Need-no_roots-requires
 no-roots-requires c κs = tt
 
-gate : (c : tie.After-both-d) → c.both-d.result ≡ both (door_of c.args.p) (budget_oroor c.args.budget)
+gate : (c : tie.After-both-d) → c.both-d.result ≡ both (door_of c.args.p) (budget_door c.args.budget)
 gate c = c.both-d.ensures ∙ ap₂ both c.door.ensures c.door_of_budget.ensures
 
 returns : tie.Need-returns-in-Open
