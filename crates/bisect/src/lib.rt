@@ -10,7 +10,7 @@ ghost use Rattle.sturm.specs.Rows.{rows_in};
 ghost use Rattle.yun.specs.Got.{got, then_got};
 ghost use Rattle.bisect.specs.Bracket.{found_in, refused_for, brackets_of, Kept, pushed, marked};
 ghost use Rattle.bisect.specs.Cut.{end_of, root_at, hits_of, cut_of};
-ghost use Rattle.bisect.specs.Bisect.{inner_of, inward as inwardOf, bisect_of};
+ghost use Rattle.bisect.specs.Bisect.{inner_of, inward as inward_of, bisect_of};
 ghost use Rattle.bisect.specs.Price.{most_calls, PricePromise};
 
 use chain::Chain;
@@ -230,7 +230,7 @@ fn bisect_isolate_inner(
 
 // An end that is an exact root is left out of what is halved.
 fn inward(exact: bool, x: f64, y: f64) -> f64
-    ensures { result ≡ inwardOf exact x y }
+    ensures { result ≡ inward_of exact x y }
 {
     if exact { y } else { x }
 }

@@ -8,7 +8,7 @@ ghost use Rattle.poly.specs.Door.{open_if};
 ghost use Rattle.text.specs.Ascii.{bytes};
 ghost use Rattle.text.specs.Page.{laid, after};
 ghost use Rattle.text.specs.Spell.{decimal_of};
-ghost use Rattle.horner.specs.Text.{constant as constantText, variable as variableText, lowered_text};
+ghost use Rattle.horner.specs.Text.{constant as constant_text, variable as variable_text, lowered_text};
 ghost use Rattle.horner.specs.Written.{text_of, refused_for, done_after, written_of, page_of};
 ghost use Rattle.horner.specs.Promise.{ReadsBack};
 
@@ -35,8 +35,8 @@ fn refused(why: Reason) -> Written
 // ---- tokens
 
 fn constant(c: Ratio, out: &mut [u8], at: usize) -> usize
-    ensures is { result ≡ after (constantText c) at out.old }
-    ensures page { out.new ≡ laid (constantText c) at out.old }
+    ensures is { result ≡ after (constant_text c) at out.old }
+    ensures page { out.new ≡ laid (constant_text c) at out.old }
 {
     let next = text::put(out, at, b'c');
     text::write_float(bridge::plain_to_f64(c), out, next)
@@ -44,8 +44,8 @@ fn constant(c: Ratio, out: &mut [u8], at: usize) -> usize
 
 // The variable between two spaces.
 fn variable(wrt: u64, out: &mut [u8], at: usize) -> usize
-    ensures is { result ≡ after (bytes " " ++ variableText wrt ++ bytes " ") at out.old }
-    ensures page { out.new ≡ laid (bytes " " ++ variableText wrt ++ bytes " ") at out.old }
+    ensures is { result ≡ after (bytes " " ++ variable_text wrt ++ bytes " ") at out.old }
+    ensures page { out.new ≡ laid (bytes " " ++ variable_text wrt ++ bytes " ") at out.old }
 {
     let letter = text::write_bytes(b" v", out, at);
     let number = text::write_decimal(wrt, out, letter);

@@ -10,8 +10,8 @@ ghost use Rattle.terms.specs.Poly.{terms_of, poly_of, trim};
 ghost use Rattle.terms.specs.Machine.{fine, plain, whole_r};
 ghost use Rattle.terms.specs.Answer.{answer_of, done_with};
 ghost use Rattle.remainders.specs.Divide.{lead as lead_of};
-ghost use Rattle.remainders.specs.Gcd.{monic as monicOf, gcd_of, freed, square_free};
-ghost use Rattle.remainders.specs.Resultant.{sign_of, powered, joined, ordered as orderedOf, resultant_of, discriminant_of, unit};
+ghost use Rattle.remainders.specs.Gcd.{monic as monic_of, gcd_of, freed, square_free};
+ghost use Rattle.remainders.specs.Resultant.{sign_of, powered, joined, ordered as ordered_of, resultant_of, discriminant_of, unit};
 ghost use Rattle.remainders.specs.Answer.{no_division, divided_of, no_number, number_of};
 
 use ratio::{Outcome, Ratio, Reason, Step};
@@ -171,7 +171,7 @@ fn later(r: Answer, steps: u64) -> Answer
 
 // Scaled so that the leading coefficient is 1; zero stays zero.
 pub fn monic(p: Poly) -> Answer
-    ensures is { result ≡ answer_of (monicOf plain (terms_of p) 0) }
+    ensures is { result ≡ answer_of (monic_of plain (terms_of p) 0) }
 {
     p.scale(inverse(lead(p)))
 }
@@ -281,7 +281,7 @@ fn join(sign: Ratio, power: Ratio, inner: Ratio, steps: u64) -> Number
 // The resultant where the first degree is at least 1 and not below the second's; the second's length falls with each call.
 fn ordered(a: Poly, b: Poly) -> Number
     requires { length (terms_of b) ≤ length (terms_of a) }
-    ensures { result ≡ number_of (orderedOf plain (length (terms_of b)) (terms_of a) (terms_of b) 0) }
+    ensures { result ≡ number_of (ordered_of plain (length (terms_of b)) (terms_of a) (terms_of b) 0) }
 {
     let n = a.length();
     let m = b.length();

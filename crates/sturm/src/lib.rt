@@ -8,11 +8,11 @@ ghost use Rattle.terms.specs.Poly.{terms_of};
 ghost use Rattle.chain.specs.Answer.{entries_of};
 ghost use Rattle.sturm.specs.Value.{floats_of, horner};
 ghost use Rattle.sturm.specs.Sign.{sign_of};
-ghost use Rattle.sturm.specs.Changes.{newer as newerOf, differ as differOf, changes};
+ghost use Rattle.sturm.specs.Changes.{newer as newer_of, differ as differ_of, changes};
 ghost use Rattle.sturm.specs.Along.{rows_of, signs_at};
 ghost use Rattle.sturm.specs.Rows.{row_of, holding, rows_in};
 ghost use Rattle.sturm.specs.Promise.{ChainPromise, CountPromise};
-ghost use Rattle.sturm.specs.Count.{sequence_for, inside as insideOf, ends_of, no_count, count_of, count_from, count_for};
+ghost use Rattle.sturm.specs.Count.{sequence_for, inside as inside_of, ends_of, no_count, count_of, count_from, count_for};
 
 use chain::Chain;
 use poly::Gate;
@@ -135,7 +135,7 @@ pub fn sign_of(v: f64) -> Sign
 
 // The last sign that is not zero.
 fn newer(last: Sign, s: Sign) -> Sign
-    ensures { result ≡ newerOf last s }
+    ensures { result ≡ newer_of last s }
 {
     match s {
         Sign::Zero => last,
@@ -147,7 +147,7 @@ fn newer(last: Sign, s: Sign) -> Sign
 
 // 1 where the sign changes; a zero changes nothing, and a NaN differs from each neighbour, also from a NaN.
 fn differ(last: Sign, s: Sign) -> usize
-    ensures { result ≡ differOf last s }
+    ensures { result ≡ differ_of last s }
 {
     match last {
         Sign::Zero => 0,
@@ -226,7 +226,7 @@ pub fn sturm_sequence(p: Poly) -> Chain
 
 // Within ±1e15; what is not finite isn't.
 fn inside(x: f64) -> bool
-    ensures { result ≡ insideOf x }
+    ensures { result ≡ inside_of x }
 {
     if x >= -1e15 { x <= 1e15 } else { false }
 }

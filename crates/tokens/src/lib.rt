@@ -6,7 +6,7 @@ ghost use Rattle.std.specs.Float.{binary64};
 ghost use Rattle.std.specs.Float.Ieee.{of_bits};
 ghost use Rattle.tokens.specs.Spelling.{digit_of, number_of, bits_of, index_of, mark_of, const_of, pow_of, natural_of, var_of, token_of};
 ghost use Rattle.tokens.specs.Words.{length_to, word_length};
-ghost use Rattle.tokens.specs.Heights.{takes as takes_of, is_other, is_malformed, is_bad, after as after_of, room_of, finish as finishOf, check_of};
+ghost use Rattle.tokens.specs.Heights.{takes as takes_of, is_other, is_malformed, is_bad, after as after_of, room_of, finish as finish_of, check_of};
 
 use ratio::{Outcome, Reason};
 
@@ -303,7 +303,7 @@ impl Height {
 
     // At the text's end one value is left, or a token is missing.
     fn finish(self, end: usize) -> Outcome
-        ensures { result ≡ finishOf end self }
+        ensures { result ≡ finish_of end self }
     {
         if self.past {
             self.room()

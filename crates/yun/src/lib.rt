@@ -7,7 +7,7 @@ ghost use Rattle.ratio.specs.declared.Outcome.TheVariants as O;
 ghost use Rattle.terms.specs.Poly.{terms_of, poly_of};
 ghost use Rattle.yun.specs.Answer.{no_piece, refused_for, found_all, decomposition_of, over_with, Turns, piece_for, room_for};
 ghost use Rattle.yun.specs.Round.{pushed, factor_of, ended, cut_by, turn_of};
-ghost use Rattle.yun.specs.Yun.{rounds as roundsOf, split_by, split_of, found_or, square_frees};
+ghost use Rattle.yun.specs.Yun.{rounds as rounds_of, split_by, split_of, found_or, square_frees};
 ghost use Rattle.terms.specs.Answer.{answer_of};
 
 use ratio::{Outcome, Reason};
@@ -223,7 +223,7 @@ fn turn(b: Poly, c: Poly) -> Round
 // The rounds from b and c on, at most as many as f has coefficients: the factor found in round i occurs i times. Where none is, f stays whole.
 fn rounds(f: Poly, b: Poly, c: Poly) -> Decomposition
     requires { f ≡ poly_of (terms_of f) }
-    ensures { result ≡ decomposition_of (found_or (terms_of f) (roundsOf (length (terms_of f)) 1 (terms_of b) (terms_of c) [])) }
+    ensures { result ≡ decomposition_of (found_or (terms_of f) (rounds_of (length (terms_of f)) 1 (terms_of b) (terms_of c) [])) }
 {
     let n = f.length();
     let mut u = b;

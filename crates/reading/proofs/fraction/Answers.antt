@@ -1,0 +1,45 @@
+-- `reading::fraction` meets its contract.
+use mathlib.Core.Path.{sym, ap₂, ◌∙◌}
+use Rattle.reading.specs.Numbers.{fraction_step}
+use Rattle.reading.proofs.Parts.{fraction-low, fraction-done, fraction-not}
+use borrow.Author.Rules.{rules}
+use Rattle.reading.proofs.fraction.Goals as goal
+
+pub enum_known-n : goal.enum_known-n
+enum_known-n c = search rules
+
+pub enum_told-1 : goal.enum_told-1
+enum_told-1 c = search rules
+
+pub returns-in_default : goal.returns-in_default
+returns-in_default c = rw c.in_default.is
+
+pub enum_known-d : goal.enum_known-d
+enum_known-d c = search rules
+
+pub enum_told-in_default-d : goal.enum_told-in_default-d
+enum_told-in_default-d c = search rules
+
+pub returns-in_default-d : goal.returns-in_default-d
+returns-in_default-d c = rw (c.in-Is.is, c.in_default-d.is)
+
+pub gcd_i64-requires : goal.gcd_i64-requires
+gcd_i64-requires c = tt
+
+pub returns-then-den-lt2 : goal.returns-then-den-lt2
+returns-then-den-lt2 c =
+    let d = c in
+    let n = d in
+    fraction-low n.in-Is.num d.in-Is-d.den (record { sfits = c.in-Is-d.known_told-in-Is-d-1-own.given.0.1 }) c.if-den-lt2.true ∙ ap₂ fraction_step (sym n.in-Is.is) (sym d.in-Is-d.is)
+
+pub returns-then-gcd_i64-eq1 : goal.returns-then-gcd_i64-eq1
+returns-then-gcd_i64-eq1 c =
+    let d = c in
+    let n = d in
+    fraction-done n.in-Is.num d.in-Is-d.den (record { sfits = d.in-Is.known_told-1-own.given.0.1 }) (record { sfits = c.in-Is-d.known_told-in-Is-d-1-own.given.0.1 }) c.if-den-lt2.false c.gcd_i64.ensures.is c.if-gcd_i64-eq1.true ∙ ap₂ fraction_step (sym n.in-Is.is) (sym d.in-Is-d.is)
+
+pub returns-else-gcd_i64-eq1 : goal.returns-else-gcd_i64-eq1
+returns-else-gcd_i64-eq1 c =
+    let d = c in
+    let n = d in
+    fraction-not n.in-Is.num d.in-Is-d.den (record { sfits = d.in-Is.known_told-1-own.given.0.1 }) (record { sfits = c.in-Is-d.known_told-in-Is-d-1-own.given.0.1 }) c.if-den-lt2.false c.gcd_i64.ensures.is c.if-gcd_i64-eq1.false ∙ ap₂ fraction_step (sym n.in-Is.is) (sym d.in-Is-d.is)

@@ -1,0 +1,51 @@
+-- `reading::top` meets its contract.
+use mathlib.Core.Path.{◌≡◌, ap, ◌∙◌}
+use mathlib.Core.Bool.{true, false}
+use Rattle.ratio.specs.Step.{is_nil}
+use Rattle.ratio.proofs.Words.{nil-bits, some_bits}
+use Rattle.terms.specs.Answer.{done_with}
+use Rattle.reading.proofs.Hold.{top-alone, top-zero, top-long, top-done}
+use borrow.Author.Rules.{rules}
+use Rattle.reading.proofs.top.Goals as goal
+
+pub zero-requires : goal.zero-requires
+zero-requires c = tt
+
+pub done-requires : goal.done-requires
+done-requires c = tt
+
+pub bad-requires : goal.bad-requires
+bad-requires c = tt
+
+pub refused-requires : goal.refused-requires
+refused-requires c = tt
+
+pub push-requires : goal.push-requires
+push-requires c = search rules
+
+pub done-requires-else-n-gt31 : goal.done-requires-else-n-gt31
+done-requires-else-n-gt31 c = tt
+
+pub returns-then-n-eq0 : goal.returns-then-n-eq0
+returns-then-n-eq0 c =
+    let n = c in
+    let s = n.args in
+    λ l h. c.done.ensures.is ∙ ap (λ p. done_with p 0) c.zero.ensures.is ∙ top-alone l s.p s.c h s.at (nil-bits s.c.num (record { sfits = n.struct_told-1.given.0.1 }) n.if-c-eq0.true) c.if-n-eq0.true
+
+pub returns-else-n-eq0 : goal.returns-else-n-eq0
+returns-else-n-eq0 c =
+    let n = c in
+    let s = n.args in
+    λ l h. c.bad.ensures ∙ top-zero l s.p s.c h s.at (nil-bits s.c.num (record { sfits = n.struct_told-1.given.0.1 }) n.if-c-eq0.true) c.if-n-eq0.false
+
+pub returns-then-n-gt31 : goal.returns-then-n-gt31
+returns-then-n-gt31 c =
+    let n = c in
+    let s = n.args in
+    λ l h. c.refused.ensures.is ∙ top-long l s.p s.c h s.at (some_bits s.c.num (record { sfits = n.struct_told-1.given.0.1 }) n.if-c-eq0.false) c.if-n-gt31.true
+
+pub returns-else-n-gt31 : goal.returns-else-n-gt31
+returns-else-n-gt31 c =
+    let n = c in
+    let s = n.args in
+    λ l h. c.done-else-n-gt31.ensures.is ∙ top-done l s.p s.c h s.at (some_bits s.c.num (record { sfits = n.struct_told-1.given.0.1 }) n.if-c-eq0.false) c.if-n-gt31.false c.push.result (c.push.ensures l h)
