@@ -10,12 +10,6 @@ returns-then-numer-eqminus9223372036854775808 c =
     let s = c in
     over-least s.args.numer s.args.denom (sym (range-test s.args.numer s.ranges.numer) ∙ ap not (eq-eqb _ _ c.if-numer-eqminus9223372036854775808.true))
 
-pub overflow_cast-denom : goal.overflow_cast-denom
-overflow_cast-denom c = search rules
-
-pub new-requires : goal.new-requires
-new-requires c = tt
-
 pub returns : goal.returns
 returns c =
     let s = c in

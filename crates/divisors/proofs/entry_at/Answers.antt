@@ -11,26 +11,14 @@ use Rattle.divisors.proofs.Words.{square_le}
 use Rattle.divisors.proofs.Entries.{entry-0, entry-1, entry-root, entry-2, entry-3, entry-end}
 use Rattle.divisors.proofs.entry_at.Goals as goal
 
-pub overflow_cast-result : goal.overflow_cast-result
-overflow_cast-result c = search rules
-
-pub overflow_cast-result-then-k-eq1 : goal.overflow_cast-result-then-k-eq1
-overflow_cast-result-then-k-eq1 c = search rules
-
 pub overflow_sub-result : goal.overflow_sub-result
 overflow_sub-result c = size-neg-fits c.args.i (omega arith)
 
 pub overflow_mul-i : goal.overflow_mul-i
 overflow_mul-i c = omega (arith, square_le c.args.i 65536 c.requires.1)
 
-pub nonzero_div-result : goal.nonzero_div-result
-nonzero_div-result c = search rules
-
 pub overflow_cast-result-then-k-eq2 : goal.overflow_cast-result-then-k-eq2
 overflow_cast-result-then-k-eq2 c = let s = c in fits (pos (s.args.n / s.args.i)) (le_trans (div-le_self s.args.n s.args.i) s.requires.2)
-
-pub nonzero_div-result-then-k-eq3 : goal.nonzero_div-result-then-k-eq3
-nonzero_div-result-then-k-eq3 c = search rules
 
 pub overflow_cast-result-then-k-eq3 : goal.overflow_cast-result-then-k-eq3
 overflow_cast-result-then-k-eq3 c = let s = c in fits (pos (s.args.n / s.args.i)) (le_trans (div-le_self s.args.n s.args.i) s.requires.2)

@@ -11,24 +11,6 @@ use Rattle.divisors.proofs.Next.{next-zero, next-zero-end, next-large, next-out,
 use Rattle.divisors.proofs.Walks.{walked_both}
 use Rattle.divisors.proofs.next_factor.Goals as goal
 
-pub entry_here-e-requires : goal.entry_here-e-requires
-entry_here-e-requires c = search rules
-
-pub enum_known-e : goal.enum_known-e
-enum_known-e c = search rules
-
-pub overflow_add-result : goal.overflow_add-result
-overflow_add-result c = search rules
-
-pub enum_told-1 : goal.enum_told-1
-enum_told-1 c = search rules
-
-pub overflow_add-at : goal.overflow_add-at
-overflow_add-at c = search rules
-
-pub next_mark-requires : goal.next_mark-requires
-next_mark-requires c = search rules
-
 pub first_entry-requires : goal.first_entry-requires
 first_entry-requires c =
     let s = c.args in

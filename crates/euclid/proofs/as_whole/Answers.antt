@@ -9,21 +9,6 @@ use Rattle.euclid.proofs.Wholes.{whole-kept, whole-refused}
 use borrow.Author.Rules.{rules}
 use Rattle.euclid.proofs.as_whole.Goals as goal
 
-pub enum_known-o : goal.enum_known-o
-enum_known-o c = search rules
-
-pub no_whole-requires : goal.no_whole-requires
-no_whole-requires c = search rules
-
-pub enum_told-1 : goal.enum_told-1
-enum_told-1 c = search rules
-
-pub magnitude-requires : goal.magnitude-requires
-magnitude-requires c = search rules
-
-pub no_whole-requires-else-magnitude-eq1 : goal.no_whole-requires-else-magnitude-eq1
-no_whole-requires-else-magnitude-eq1 c = search rules
-
 pub returns-in-Refused : goal.returns-in-Refused
 returns-in-Refused c =
     let n = c.args.n in

@@ -14,9 +14,6 @@ use Rattle.kronecker.specs.Combinations.{Stored, rows_of}
 use Rattle.kronecker.proofs.Rows.{Growing, growing-none, growing-step, growing-next, growing-full, growing-all, grown-full, full-yes, full-no, rows_none, rows-read, rows_long}
 use Rattle.kronecker.proofs.grow.Goals as goal
 
-pub nothing-out-requires : goal.nothing-out-requires
-nothing-out-requires c = tt
-
 pub returns-then-n-ge100 : goal.returns-then-n-ge100
 returns-then-n-ge100 c =
     let z = c.nothing-out in
@@ -36,21 +33,6 @@ returns-then-m-ge100 c =
     let v = l.loop-i.invariant in
     (v.5, growing-full (rows_of s.j s.old) (rest s.size s.marks.now 0) l.loop-i.i (rows_of (s.j + 1) l.loop-i.out) (rest s.size s.marks.now l.loop-i.at) (omega (arith, rows_long s.j s.old v.1)) (full-yes (s.j + 1) l.loop-i.out v.5 (omega arith)) (full-no s.j s.old v.1 v.3) v.6)
 
-pub next_factor-requires : goal.next_factor-requires
-next_factor-requires c = tt
-
-pub enum_known-value : goal.enum_known-value
-enum_known-value c = search rules
-
-pub enum_told-1 : goal.enum_told-1
-enum_told-1 c = search rules
-
-pub overflow_add-i : goal.overflow_add-i
-overflow_add-i c = omega arith
-
-pub loop-i-smaller-in_default : goal.loop-i-smaller-in_default
-loop-i-smaller-in_default c = omega arith
-
 pub loop-i-preserved-in_default : goal.loop-i-preserved-in_default
 loop-i-preserved-in_default c =
     let l = c in
@@ -58,29 +40,8 @@ loop-i-preserved-in_default c =
     let v = l.loop-i.invariant in
     (v.0, v.1, refl, v.3, omega arith, v.5, growing-next (rows_of s.j s.old) (rest s.size s.marks.now 0) l.loop-i.i (rows_of (s.j + 1) l.loop-i.out) (rest s.size s.marks.now l.loop-i.at) (omega (arith, rows_long s.j s.old v.1)) (c.next_factor.ensures.promise.ended c.in_default.is) v.6)
 
-pub offset_bounds-old-i : goal.offset_bounds-old-i
-offset_bounds-old-i c = omega arith
-
-pub bounds-old-i : goal.bounds-old-i
-bounds-old-i c = omega arith
-
-pub whole-requires : goal.whole-requires
-whole-requires c = tt
-
 pub longer-row-requires : goal.longer-row-requires
 longer-row-requires c = c.loop-i.invariant.0
-
-pub offset_bounds-out-m : goal.offset_bounds-out-m
-offset_bounds-out-m c = search rules
-
-pub bounds-out-m : goal.bounds-out-m
-bounds-out-m c = search rules
-
-pub overflow_add-out : goal.overflow_add-out
-overflow_add-out c = omega arith
-
-pub loop-i-smaller : goal.loop-i-smaller
-loop-i-smaller c = omega arith
 
 pub loop-i-preserved : goal.loop-i-preserved
 loop-i-preserved c =

@@ -5,26 +5,11 @@ use Rattle.reading.proofs.Parts.{fraction-low, fraction-done, fraction-not}
 use borrow.Author.Rules.{rules}
 use Rattle.reading.proofs.fraction.Goals as goal
 
-pub enum_known-n : goal.enum_known-n
-enum_known-n c = search rules
-
-pub enum_told-1 : goal.enum_told-1
-enum_told-1 c = search rules
-
 pub returns-in_default : goal.returns-in_default
 returns-in_default c = rw c.in_default.is
 
-pub enum_known-d : goal.enum_known-d
-enum_known-d c = search rules
-
-pub enum_told-in_default-d : goal.enum_told-in_default-d
-enum_told-in_default-d c = search rules
-
 pub returns-in_default-d : goal.returns-in_default-d
 returns-in_default-d c = rw (c.in-Is.is, c.in_default-d.is)
-
-pub gcd_i64-requires : goal.gcd_i64-requires
-gcd_i64-requires c = tt
 
 pub returns-then-den-lt2 : goal.returns-then-den-lt2
 returns-then-den-lt2 c =

@@ -8,24 +8,6 @@ use Rattle.reading.proofs.Hold.{top-alone, top-zero, top-long, top-done}
 use borrow.Author.Rules.{rules}
 use Rattle.reading.proofs.top.Goals as goal
 
-pub zero-requires : goal.zero-requires
-zero-requires c = tt
-
-pub done-requires : goal.done-requires
-done-requires c = tt
-
-pub bad-requires : goal.bad-requires
-bad-requires c = tt
-
-pub refused-requires : goal.refused-requires
-refused-requires c = tt
-
-pub push-requires : goal.push-requires
-push-requires c = search rules
-
-pub done-requires-else-n-gt31 : goal.done-requires-else-n-gt31
-done-requires-else-n-gt31 c = tt
-
 pub returns-then-n-eq0 : goal.returns-then-n-eq0
 returns-then-n-eq0 c =
     let n = c in

@@ -6,37 +6,13 @@ use Rattle.text.proofs.Pages.{lays-then, lays-as}
 use Rattle.text.proofs.Decimal.{decimal-one, decimal-more}
 use Rattle.text.proofs.+write_decimal.Goals as goal
 
-pub overflow_cast-n : goal.overflow_cast-n
-overflow_cast-n t c = omega arith
-
-pub overflow_add-n : goal.overflow_add-n
-overflow_add-n t c = omega arith
-
-pub put-requires : goal.put-requires
-put-requires t c = tt
-
 pub write_decimal-next-requires : goal.write_decimal-next-requires
 write_decimal-next-requires t c = (omega arith, tt)
-
-pub overflow_cast-n-else-n-lt10 : goal.overflow_cast-n-else-n-lt10
-overflow_cast-n-else-n-lt10 t c = omega arith
-
-pub overflow_add-n-else-n-lt10 : goal.overflow_add-n-else-n-lt10
-overflow_add-n-else-n-lt10 t c = omega arith
-
-pub put-requires-else-n-lt10 : goal.put-requires-else-n-lt10
-put-requires-else-n-lt10 t c = tt
-
-pub shape_of-out-then-n-lt10 : goal.shape_of-out-then-n-lt10
-shape_of-out-then-n-lt10 t c = c.put.auto.out
 
 pub returns-then-n-lt10 : goal.returns-then-n-lt10
 returns-then-n-lt10 t c =
     let r = lays-as _ _ _ _ (sym (decimal-one c.args.n (omega arith))) (c.put.ensures.is, c.put.ensures.page) in
     record { is = r.0; page = r.1 }
-
-pub shape_of-out-else-n-lt10 : goal.shape_of-out-else-n-lt10
-shape_of-out-else-n-lt10 t c = c.put-else-n-lt10.auto.out ∙ c.write_decimal-next.auto.out
 
 pub returns-else-n-lt10 : goal.returns-else-n-lt10
 returns-else-n-lt10 t c =

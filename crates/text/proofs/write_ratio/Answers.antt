@@ -8,27 +8,12 @@ use Rattle.text.proofs.Pages.{lays-then, lays-as}
 use Rattle.text.proofs.Numbers.{ratio-whole, ratio-over}
 use Rattle.text.proofs.write_ratio.Goals as goal
 
-pub write_whole-next-requires : goal.write_whole-next-requires
-write_whole-next-requires c = tt
-
-pub put-behind-requires : goal.put-behind-requires
-put-behind-requires c = tt
-
-pub write_whole-requires : goal.write_whole-requires
-write_whole-requires c = tt
-
-pub shape_of-out-then-v-eq1 : goal.shape_of-out-then-v-eq1
-shape_of-out-then-v-eq1 c = search rules
-
 pub returns-then-v-eq1 : goal.returns-then-v-eq1
 returns-then-v-eq1 c =
     let v = c.args.v in
     let n = ap whole_text (to_z-of_z {w = Rattle.std.proofs.Common.w64} {z = v.num} (record { sfits = c.struct_told-1.given.0.1 })) in
     let r = lays-as _ _ _ _ (n ∙ ratio-whole v (record { sfits = c.struct_told-2-1.given.1.0.1 }) c.if-v-eq1.true) (c.write_whole-next.ensures.is, c.write_whole-next.ensures.page) in
     record { is = r.0; page = r.1 }
-
-pub shape_of-out-else-v-eq1 : goal.shape_of-out-else-v-eq1
-shape_of-out-else-v-eq1 c = search rules
 
 pub returns-else-v-eq1 : goal.returns-else-v-eq1
 returns-else-v-eq1 c =

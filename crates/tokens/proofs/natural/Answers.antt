@@ -9,9 +9,6 @@ use Rattle.tokens.proofs.natural.Goals as goal
 pub spelled-requires : goal.spelled-requires
 spelled-requires c = ten-fits _ (omega arith)
 
-pub bounds-digits-0 : goal.bounds-digits-0
-bounds-digits-0 c = search rules
-
 pub spelled-requires-else-digits-eq48 : goal.spelled-requires-else-digits-eq48
 spelled-requires-else-digits-eq48 c = ten-fits _ (omega arith)
 
