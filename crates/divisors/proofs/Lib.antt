@@ -6,6 +6,8 @@ pub mod Rest
 pub mod Walks
 pub mod Order
 pub mod Count
+pub mod Factors
+pub mod Small
 pub mod Once
 pub mod Lists
 pub mod Listed

@@ -3,16 +3,18 @@ use mathlib.Core.Path.{◌≡◌, refl, sym, ap, ap₂, ◌∙◌, subst}
 use mathlib.Core.Bool.{Bool, true, false, ◌&&◌, cond}
 use mathlib.Core.List.{[]}
 use Prim.Native.Nat.{ℕ, zero, suc, ◌+◌, ◌*◌, ◌/◌, ◌%◌, ◌<◌, ◌≤◌, ◌∣◌}
-use native.Mathlib.Nat.{mul_comm, mul-le-mul_left, eq_of_mul-eq-mul_left, dvd-mul_left, dvd-mul_right, dvd_of_mod-eq-zero, mod-eq-zero_of_dvd, mul-div_cancel'}
+use native.Mathlib.Nat.{mul_comm, eq_of_mul-eq-mul_left, dvd-mul_left, dvd-mul_right, mul-div_cancel'}
 use native.Mathlib.Decide.{dec_le, ℕ_discrete}
 use native.Mathlib.Omega.{arith}
-use borrow.Author.Tests.{leb-true, eqb-true, eq-eqb, ne_eqb, le-leb}
-use lib.Dec.{leb, eqb}
+use borrow.Author.Tests.{eq-eqb, ne_eqb}
+use lib.Dec.{eqb}
 use lib.IntN.{ℤ, nat_abs}
 use Rattle.divisors.specs.Listing.{entries, others, is_small, keep, list_from, factors_of}
 use Rattle.divisors.specs.Marks.{digit}
 use Rattle.divisors.specs.Promise.{count_of}
 use Rattle.divisors.proofs.Words.{square_le}
+use Rattle.divisors.proofs.Factors.{Factors, small-factors, square-below}
+use Rattle.divisors.proofs.Small.{factors-small}
 use Rattle.divisors.proofs.Count.{count_none, count-append, count-pair}
 
 eqb-iff : (a b c d : ℕ) → (a ≡ b → c ≡ d) → (c ≡ d → a ≡ b) → eqb a b ≡ eqb c d
@@ -21,12 +23,6 @@ eqb-iff a b c d f g = by (ℕ_discrete a b)
     by : Dec (a ≡ b) → eqb a b ≡ eqb c d
     by (yes e) = eq-eqb a b e ∙ sym (eq-eqb c d (f e))
     by (no e) = ne_eqb a b e ∙ sym (ne_eqb c d (λ q. e (g q)))
-
--- h and g are a smaller and a larger factor of N
-record Factors (N h g : ℕ) : Type 0 where
-  some : 0 < h
-  ordered : h ≤ g
-  product : h * g ≡ N
 
 -- one factor determines the other
 partner : (N h g i f : ℕ) → 0 < h → h * g ≡ N → i * f ≡ N → h ≡ i → g ≡ f
@@ -80,30 +76,6 @@ module _ (N h g i f : ℕ) (H : Factors N h g) (I : Factors N i f) where
           ap₂ (λ t u. digit t + cond u 0 (digit (eqb g f))) (ne_eqb g i (no-first s)) (ne_eqb (i * i) N s)
           ∙ ap (λ t. 0 + digit t) (eqb-iff g f i h (λ e. sym (partner-same e)) (λ e. same-partner (sym e)))
           ∙ omega arith
-
-and-true : (a b : Bool) → (a && b) ≡ true → (a ≡ true) × (b ≡ true)
-and-true true b e = (refl, e)
-and-true false b e = absurd (let f : ◌≡◌ {A = ℕ} 0 1 = cc in omega arith)
-
--- a marked number is the smaller factor with its quotient, and the other way round
-small-factors : (N i : ℕ) → 0 < i → is_small N i ≡ true → Factors N i (N / i)
-small-factors N i p e = record { some = p; ordered = ordered-by (dec_le i (N / i)); product = product_is }
-  where
-    tests : (leb (i * i) N ≡ true) × (eqb (N % i) 0 ≡ true)
-    tests = and-true (leb (i * i) N) (eqb (N % i) 0) e
-
-    product_is : i * (N / i) ≡ N
-    product_is = mul-div_cancel' i (dvd_of_mod-eq-zero i (eqb-true (N % i) 0 tests.1))
-
-    ordered-by : Dec (i ≤ N / i) → i ≤ N / i
-    ordered-by (yes h) = h
-    ordered-by (no h) = absurd (omega (arith, product_is, leb-true (i * i) N tests.0, mul-le-mul_left i (let g : suc (N / i) ≤ i = omega arith in g)))
-
-square-below : (N h g : ℕ) → Factors N h g → h * h ≤ N
-square-below N h g H = subst (λ m. h * h ≤ m) H.product (mul-le-mul_left h H.ordered)
-
-factors-small : (N h g : ℕ) → Factors N h g → is_small N h ≡ true
-factors-small N h g H = ap₂ ◌&&◌ (le-leb (h * h) N (square-below N h g H)) (eq-eqb (N % h) 0 (mod-eq-zero_of_dvd h (subst (λ m. h ∣ m) H.product (dvd-mul_right h g))))
 
 larger-above : (N h g : ℕ) → Factors N h g → 0 < g
 larger-above N h g H = omega arith
