@@ -73,8 +73,8 @@ pub fn ratio_to_f64(r: Ratio) -> Rounded
 
 // Twice a is exact, so that the half is the last digit of its whole part. Below 2^63 no float rounds up to 2^63.
 fn round_size(a: f64) -> u64
-    requires fact_1 { T (Ieee.lt (Ieee.of_bits binary64 0) a) }
-    requires fact_2 { T (Ieee.lt a (fin false 1 (pos 63))) }
+    requires above_zero { T (Ieee.lt (Ieee.of_bits binary64 0) a) }
+    requires below_most { T (Ieee.lt a (fin false 1 (pos 63))) }
     ensures { (result ≡ size_of a) × (result ≤ limit) }
 {
     let twice = std::num::truncating_f64_to_u64(a + a);

@@ -13,7 +13,7 @@ use Rattle.refine.specs.Root.{root_of}
 use Rattle.isolate.specs.declared.Isolation.{Isolation}
 use Rattle.isolate.specs.Answer.{roots_in, holding, Kept}
 use Rattle.isolate.specs.Sorted.{placed, roots_onto}
-use Rattle.isolate.specs.Apart.{near_last, kept_brackets, apart_onto}
+use Rattle.isolate.specs.Apart.{near_last, kept_list, apart_onto}
 use Rattle.terms.proofs.Lists.{read-terms}
 use Rattle.isolate.proofs.Hold.{roots-of, kept_of, kept-len}
 use Rattle.isolate.proofs.Slides.{placed-length}
@@ -76,10 +76,10 @@ near-read r tol x d z k h e =
     ∙ ap (λ (v : Float). lt v tol) (sym e)
 
 module _ (tol x : Float) (l : List Float) where
-  pub kept_near : near_last tol x l ≡ true → l ≡ kept_brackets tol x l
+  pub kept_near : near_last tol x l ≡ true → l ≡ kept_list tol x l
   kept_near h = ap (λ (t : Bool). cond t l (l ++ (x ∷ []))) (sym h)
 
-  pub kept-far : near_last tol x l ≡ false → l ++ (x ∷ []) ≡ kept_brackets tol x l
+  pub kept-far : near_last tol x l ≡ false → l ++ (x ∷ []) ≡ kept_list tol x l
   kept-far h = ap (λ (t : Bool). cond t l (l ++ (x ∷ []))) (sym h)
 
 kept-length : (t : Bool) (x : Float) (l : List Float) → length (cond t l (l ++ (x ∷ []))) ≤ length l + 1
@@ -97,12 +97,12 @@ keeping_none tol l out e =
     record { is = kept_of out [] e; few = omega (arith, ap length r); whole = ap (λ (t : List Float). apart_onto tol l t) r }
 
 module _ (tol : Float) (l : List Float) (i : ℕ) (out : Isolation) (g : Keeping tol l i out) where
-  pub keeping-more : (x : Float) → drop i l ≡ x ∷ drop (i + 1) l → (next : Isolation) → next ≡ holding (kept_brackets tol x (roots_in out)) → Keeping tol l (i + 1) next
+  pub keeping-more : (x : Float) → drop i l ≡ x ∷ drop (i + 1) l → (next : Isolation) → next ≡ holding (kept_list tol x (roots_in out)) → Keeping tol l (i + 1) next
   unfolding apart_onto
   keeping-more x d next n =
-      let q : roots_in next ≡ kept_brackets tol x (roots_in out) = roots-of next (kept_brackets tol x (roots_in out)) n in
+      let q : roots_in next ≡ kept_list tol x (roots_in out) = roots-of next (kept_list tol x (roots_in out)) n in
       record {
-        is = kept_of next (kept_brackets tol x (roots_in out)) n;
+        is = kept_of next (kept_list tol x (roots_in out)) n;
         few = omega (arith, ap length q, kept-length (near_last tol x (roots_in out)) x (roots_in out), g.few);
         whole =
             ap (λ (t : List Float). apart_onto tol (drop (i + 1) l) t) q

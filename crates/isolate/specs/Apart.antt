@@ -10,10 +10,10 @@ near_last tol x [] = false
 near_last tol x (y ∷ []) = lt (size_of (sub binary64 x y)) tol
 near_last tol x (y ∷ z ∷ l) = near_last tol x (z ∷ l)
 
-abbrev pub kept_brackets : Float → Float → List Float → List Float
-kept_brackets tol x l = cond (near_last tol x l) l (l ++ (x ∷ []))
+abbrev pub kept_list : Float → Float → List Float → List Float
+kept_list tol x l = cond (near_last tol x l) l (l ++ (x ∷ []))
 
 -- one after the other, behind those kept
 unfoldable pub apart_onto : Float → List Float → List Float → List Float
 apart_onto tol [] kept = kept
-apart_onto tol (x ∷ l) kept = apart_onto tol l (kept_brackets tol x kept)
+apart_onto tol (x ∷ l) kept = apart_onto tol l (kept_list tol x kept)

@@ -7,7 +7,7 @@ ghost use Rattle.sturm.specs.Value.{floats_of};
 ghost use Rattle.bisect.specs.Bracket.{items_of};
 ghost use Rattle.isolate.specs.Answer.{roots_in, holding, refused_for, isolation_of, Kept};
 ghost use Rattle.isolate.specs.Sorted.{slide_of, inserted, placed, roots_onto};
-ghost use Rattle.isolate.specs.Apart.{kept_brackets, apart_onto};
+ghost use Rattle.isolate.specs.Apart.{kept_list, apart_onto};
 ghost use Rattle.isolate.specs.Isolate.{limits_of, isolate_from, isolate_for};
 ghost use Rattle.isolate.specs.Promise.{IsolationPromise};
 ghost use Rattle.isolate.specs.Price.{isolation_quote, QuotesIsolation};
@@ -170,7 +170,7 @@ fn gather(p: Poly, b: Brackets, tol: f64) -> Isolation
 // x behind the others, where it is not too close to the last one kept.
 fn keep(found: Isolation, x: f64, tol: f64) -> Isolation
     requires { Kept found × (length (roots_in found) < 64) }
-    ensures { result ≡ holding (kept_brackets tol x (roots_in found)) }
+    ensures { result ≡ holding (kept_list tol x (roots_in found)) }
 {
     let n = found.len;
     if n == 0 {

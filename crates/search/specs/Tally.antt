@@ -23,12 +23,12 @@ abbrev pub count_of : Tally → Count
 count_of t = record { tried = t.tried; steps = t.steps }
 
 -- the roots kept
-abbrev pub kept_brackets : Tally → List Ratio
-kept_brackets t = take t.len t.values
+abbrev pub kept_list : Tally → List Ratio
+kept_list t = take t.len t.values
 
 -- a tally that isn't refused
 abbrev pub Tallied : Tally → Type 0
-Tallied t = t ≡ tally_of (fine (count_of t) (kept_brackets t))
+Tallied t = t ≡ tally_of (fine (count_of t) (kept_list t))
 
 abbrev pub valued_of : Ran ℕ Ratio → Valued
 valued_of (fine k v) = record { fine = true; value = v; steps = k }

@@ -14,7 +14,7 @@ ghost use Rattle.search.specs.Clear.{widened, multiple_from, cleared_one, cleare
 ghost use Rattle.search.specs.Strip.{zeros};
 ghost use Rattle.search.specs.Keep.{turned, inserted};
 ghost use Rattle.search.specs.Try.{kept_if, try_one, try_row, try_all};
-ghost use Rattle.search.specs.Tally.{count_of, kept_brackets, Tallied, tally_of, halted_at, valued_of, clear_of};
+ghost use Rattle.search.specs.Tally.{count_of, kept_list, Tallied, tally_of, halted_at, valued_of, clear_of};
 ghost use Rattle.search.specs.Answer.{no_roots, answer_for, started, searched_below, searched_in, roots_of};
 
 use divisors::{Found, Listing};
@@ -186,7 +186,7 @@ struct Tally {
 // x put in its place: the smaller stays, the larger is carried on. A repeat is dropped.
 fn insert(t: Tally, x: Ratio) -> Tally
     requires { Tallied t }
-    ensures { result ≡ tally_of (fine (count_of t) (inserted x (kept_brackets t))) }
+    ensures { result ≡ tally_of (fine (count_of t) (inserted x (kept_list t))) }
 {
     let n = t.len;
     if n >= 32 {
@@ -289,7 +289,7 @@ fn halted(tried: u64, steps: u64) -> Tally
 // One candidate more was tried; a root is kept.
 fn keep(t: Tally, x: Ratio, root: bool, steps: u64) -> Tally
     requires { Tallied t × (t.tried ≤ 9007199254740992) }
-    ensures { result ≡ tally_of (fine (record { tried = t.tried + 1; steps = steps }) (kept_if root x (kept_brackets t))) }
+    ensures { result ≡ tally_of (fine (record { tried = t.tried + 1; steps = steps }) (kept_if root x (kept_list t))) }
 {
     let values = t.values;
     let now = Tally {
@@ -305,7 +305,7 @@ fn keep(t: Tally, x: Ratio, root: bool, steps: u64) -> Tally
 // The candidate n / d; there is none where d is zero.
 fn try_one(p: Poly, n: i64, d: i64, t: Tally) -> Tally
     requires { Tallied t × (t.tried ≤ 9007199254740992) × (t.steps ≤ 9007199254740992) }
-    ensures { result ≡ tally_of (try_one (terms_of p) n d (count_of t) (kept_brackets t)) }
+    ensures { result ≡ tally_of (try_one (terms_of p) n d (count_of t) (kept_list t)) }
 {
     if d == 0 {
         return t;
@@ -324,7 +324,7 @@ fn try_one(p: Poly, n: i64, d: i64, t: Tally) -> Tally
 // The candidates n / d for each d of a listing.
 fn try_row(p: Poly, n: i64, size: u64, marks: &[u64; 1024], t: Tally) -> Tally
     requires { Tallied t × (t.tried ≤ 4503599627370496) × (t.steps ≤ 4503599627370496) }
-    ensures is { result ≡ tally_of (try_row (terms_of p) n (rest size marks.now 0) (count_of t) (kept_brackets t)) }
+    ensures is { result ≡ tally_of (try_row (terms_of p) n (rest size marks.now 0) (count_of t) (kept_list t)) }
     ensures few { (result.tried ≤ t.tried + 262144) × (result.steps ≤ t.steps + 25165824) }
 {
     let mut so_far = t;
@@ -352,7 +352,7 @@ fn try_all<'a>(
     t: Tally,
 ) -> Tally
     requires { Tallied t × (t.tried ≡ 0) × (t.steps ≡ 0) }
-    ensures { result ≡ tally_of (try_all (terms_of p) (rest size marks.now 0) (rest lower below.now 0) (count_of t) (kept_brackets t)) }
+    ensures { result ≡ tally_of (try_all (terms_of p) (rest size marks.now 0) (rest lower below.now 0) (count_of t) (kept_list t)) }
 {
     let mut so_far = t;
     let mut at: usize = 0;

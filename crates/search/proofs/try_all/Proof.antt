@@ -7,7 +7,7 @@ use lib.IntN.{ℤ}
 use mir.Facts.{to_z-of_z}
 use Rattle.divisors.specs.Walk.{rest}
 use Rattle.terms.specs.Poly.{terms_of}
-use Rattle.search.specs.Tally.{count_of, kept_brackets, tally_of}
+use Rattle.search.specs.Tally.{count_of, kept_list, tally_of}
 use Rattle.search.specs.Try.{try_row}
 use Rattle.search.proofs.CodeTally.{Searching, searching-none, searching-all, searching-over, searching-more}
 use borrow.Author.Rules.{rules}
@@ -54,12 +54,12 @@ try-row-requires c κs =
     (r.tallied, omega (arith, r.tried, r.place), omega (arith, r.steps, r.place))
 
 -- the row's tally, of the entry as it is read
-tried : (c : tie.After-try_row-tally invariant-loop decreases-loop) → c.try_row-tally.result ≡ tally_of (try_row (terms_of c.args.p) c.in-At.value (rest c.args.lower c.args.below.now 0) (count_of c.loop-value.so_far) (kept_brackets c.loop-value.so_far))
+tried : (c : tie.After-try_row-tally invariant-loop decreases-loop) → c.try_row-tally.result ≡ tally_of (try_row (terms_of c.args.p) c.in-At.value (rest c.args.lower c.args.below.now 0) (count_of c.loop-value.so_far) (kept_list c.loop-value.so_far))
 tried c =
     let k = c in
     let l = k in
     let s = l.args in
-    c.try_row-tally.ensures.0 ∙ ap (λ (z : ℤ). tally_of (try_row (terms_of s.p) z (rest s.lower s.below.now 0) (count_of l.loop-value.so_far) (kept_brackets l.loop-value.so_far))) (to_z-of_z {w = Rattle.std.proofs.Common.w64} {z = k.in-At.value} (record { sfits = k.in-At.known_told-1-own.given.0.1 }))
+    c.try_row-tally.ensures.0 ∙ ap (λ (z : ℤ). tally_of (try_row (terms_of s.p) z (rest s.lower s.below.now 0) (count_of l.loop-value.so_far) (kept_list l.loop-value.so_far))) (to_z-of_z {w = Rattle.std.proofs.Common.w64} {z = k.in-At.value} (record { sfits = k.in-At.known_told-1-own.given.0.1 }))
 
 returns-2 : tie.Need-returns-then-not-tally invariant-loop decreases-loop
 returns-2 c =

@@ -2,7 +2,7 @@
 use mathlib.Core.Path.{◌≡◌, sym, ap, ap₂, ◌∙◌}
 use mathlib.Core.Bool.{Bool, false}
 use Rattle.terms.specs.Machine.{fine}
-use Rattle.search.specs.Tally.{kept_brackets, tally_of}
+use Rattle.search.specs.Tally.{kept_list, tally_of}
 use Rattle.search.specs.Try.{kept_if}
 use Prim.Native.Nat.{◌+◌}
 use mir.Facts.{to_z-of_z}
@@ -78,7 +78,7 @@ returns-4 c =
     let m = v in
     let s = m in
     c.keep.ensures
-    ∙ ap (λ (b : Bool). tally_of (fine (record { tried = s.args.t.tried + 1; steps = v.evaluate-v.result.steps }) (kept_if b v.in-Done.x (kept_brackets s.args.t)))) z.is_zero.ensures
+    ∙ ap (λ (b : Bool). tally_of (fine (record { tried = s.args.t.tried + 1; steps = v.evaluate-v.result.steps }) (kept_if b v.in-Done.x (kept_list s.args.t)))) z.is_zero.ensures
     ∙ one-tried (terms_of s.args.p) s.args.n s.args.d s.args.t s.requires.0 _ (some m.before.before.before.before.before.before.before.before) (candidate m.before.before.before.before.before.before.before ∙ v.in-Done.is) v.evaluate-v.result v.evaluate-v.ensures (not-false _ i.if-not-v.false)
 
 pub try_one_spec : {M : Type 1} → statement M

@@ -11,7 +11,7 @@ use mir.Val.{to_z, of_z}
 use Rattle.divisors.specs.Walk.{rest}
 use Rattle.terms.specs.Poly.{terms_of}
 use Rattle.terms.proofs.Lists.{long, within-32}
-use Rattle.search.specs.Tally.{count_of, kept_brackets, tally_of}
+use Rattle.search.specs.Tally.{count_of, kept_list, tally_of}
 use Rattle.search.specs.Try.{try_one, try_row}
 use Rattle.search.proofs.CodeTally.{Rowing, rowing-none, rowing-all, rowing-over, rowing-few, rowing_more}
 use borrow.Author.Rules.{rules}
@@ -33,9 +33,9 @@ loop-holds c =
     (within-32 s.p.len s.p.coeffs e, c.requires.1, c.requires.2, rowing-none (terms_of s.p) _ s.size _ s.t c.requires.0)
 
 -- the row of the number as it is read
-number : (s : tie.Start invariant-loop decreases-loop) → tally_of (try_row (terms_of s.args.p) (to_z w64 (of_z w64 s.args.n)) (rest s.args.size s.args.marks.now 0) (count_of s.args.t) (kept_brackets s.args.t)) ≡ tally_of (try_row (terms_of s.args.p) s.args.n (rest s.args.size s.args.marks.now 0) (count_of s.args.t) (kept_brackets s.args.t))
+number : (s : tie.Start invariant-loop decreases-loop) → tally_of (try_row (terms_of s.args.p) (to_z w64 (of_z w64 s.args.n)) (rest s.args.size s.args.marks.now 0) (count_of s.args.t) (kept_list s.args.t)) ≡ tally_of (try_row (terms_of s.args.p) s.args.n (rest s.args.size s.args.marks.now 0) (count_of s.args.t) (kept_list s.args.t))
 number s =
-    ap (λ (z : ℤ). tally_of (try_row (terms_of s.args.p) z (rest s.args.size s.args.marks.now 0) (count_of s.args.t) (kept_brackets s.args.t))) (to_z-of_z {w = Rattle.std.proofs.Common.w64} {z = s.args.n} s.ranges.n)
+    ap (λ (z : ℤ). tally_of (try_row (terms_of s.args.p) z (rest s.args.size s.args.marks.now 0) (count_of s.args.t) (kept_list s.args.t))) (to_z-of_z {w = Rattle.std.proofs.Common.w64} {z = s.args.n} s.ranges.n)
 
 next-factor-requires : tie.Need-next_factor-requires invariant-loop decreases-loop
 next-factor-requires c κs = tt
@@ -65,12 +65,12 @@ entry : (c : tie.In-At invariant-loop decreases-loop) → rest c.args.size c.arg
 entry c = c.next_factor.ensures.1.found _ _ c.in-At.is
 
 -- the candidate's tally, of the entry as it is read
-tried : (c : tie.After-try_one-tally invariant-loop decreases-loop) → c.try_one-tally.result ≡ tally_of (try_one (terms_of c.args.p) (to_z w64 (of_z w64 c.args.n)) c.in-At.value (count_of c.loop-value.so_far) (kept_brackets c.loop-value.so_far))
+tried : (c : tie.After-try_one-tally invariant-loop decreases-loop) → c.try_one-tally.result ≡ tally_of (try_one (terms_of c.args.p) (to_z w64 (of_z w64 c.args.n)) c.in-At.value (count_of c.loop-value.so_far) (kept_list c.loop-value.so_far))
 tried c =
     let k = c in
     let l = k in
     let s = l.args in
-    c.try_one-tally.ensures ∙ ap (λ (z : ℤ). tally_of (try_one (terms_of s.p) (to_z w64 (of_z w64 s.n)) z (count_of l.loop-value.so_far) (kept_brackets l.loop-value.so_far))) (to_z-of_z {w = Rattle.std.proofs.Common.w64} {z = k.in-At.value} (record { sfits = k.in-At.known_told-1-own.given.0.1 }))
+    c.try_one-tally.ensures ∙ ap (λ (z : ℤ). tally_of (try_one (terms_of s.p) (to_z w64 (of_z w64 s.n)) z (count_of l.loop-value.so_far) (kept_list l.loop-value.so_far))) (to_z-of_z {w = Rattle.std.proofs.Common.w64} {z = k.in-At.value} (record { sfits = k.in-At.known_told-1-own.given.0.1 }))
 
 try-one-requires : tie.Need-try_one-tally-requires invariant-loop decreases-loop
 try-one-requires c κs =
