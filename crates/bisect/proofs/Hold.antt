@@ -1,4 +1,5 @@
 -- Laws of the brackets in their array: what is in use, and one more.
+use Rattle.std.specs.Prelude.{Ok, Err}
 use mathlib.Core.Path.{◌≡◌, refl, sym, ap, ◌∙◌}
 use mathlib.Core.Bool.{Bool, true, false}
 use mathlib.Core.List.{List, [], ◌∷◌, ◌++◌, append_assoc}
@@ -9,8 +10,7 @@ use lib.Dec.{ltb}
 use lib.Ieee.{Float}
 use lib.ListN.{length, set, replicate, length-append}
 use lib.Seq.{take-append_seam, set-append_seam}
-use Rattle.ratio.specs.declared.Outcome.{Outcome}
-use Rattle.ratio.specs.declared.Outcome.TheVariants as O
+use Rattle.ratio.specs.Refusal.{Outcome, no_refusal}
 use Rattle.ratio.specs.declared.Reason.{Reason}
 use Rattle.ratio.specs.declared.Reason.TheVariants.{TooLong}
 use Rattle.yun.specs.Got.{got, none, then_got}
@@ -33,21 +33,21 @@ kept_of r g e = e ∙ ap brackets_of (sym (read_of r g e))
 filled : (l : List Bracket) (x : Bracket) (k m : ℕ) → k ≡ suc m → set (l ++ replicate k unused) (length l) x ≡ (l ++ (x ∷ [])) ++ replicate m unused
 filled l x k m e = rw (e, append_assoc) (set-append_seam l unused (replicate m unused) x)
 
-one_more : (l : List Bracket) (x : Bracket) → length l < 64 → ◌≡◌ {A = Brackets} (record { outcome = O.Done; items = set (holding l).items (length l) x; len = length l + 1 }) (holding (l ++ (x ∷ [])))
+one_more : (l : List Bracket) (x : Bracket) → length l < 64 → ◌≡◌ {A = Brackets} (record { outcome = no_refusal; items = set (holding l).items (length l) x; len = length l + 1 }) (holding (l ++ (x ∷ [])))
 one_more l x h =
     let n : length (l ++ (x ∷ [])) ≡ length l + 1 = length-append l (x ∷ []) in
     rw (filled l x (64 - length l) (64 - (length l + 1)) (omega arith), n)
 
 module _ (r : Brackets) (k : Kept r) where
-  pub kept-refused : (why : Reason) (f : List Bracket → Found) → r.outcome ≡ O.Refused why → r ≡ brackets_of (then_got (found_in r) f)
+  pub kept-refused : (why : Reason) (f : List Bracket → Found) → r.outcome ≡ Err why → r ≡ brackets_of (then_got (found_in r) f)
   kept-refused why f o =
       let q : found_in r ≡ none why = ap (λ (o : Outcome). found_from o (items_of r)) o in
       k ∙ ap brackets_of (q ∙ sym (ap (λ (g : Found). then_got g f) q))
 
-  pub found-done : r.outcome ≡ O.Done → found_in r ≡ got (items_of r)
+  pub found-done : r.outcome ≡ no_refusal → found_in r ≡ got (items_of r)
   found-done o = ap (λ (o : Outcome). found_from o (items_of r)) o
 
-  module _ (o : r.outcome ≡ O.Done) where
+  module _ (o : r.outcome ≡ no_refusal) where
     held : r ≡ holding (items_of r)
     held = k ∙ ap brackets_of (found-done o)
 
@@ -83,8 +83,8 @@ mark-none g false x h = then_same g
 -- ---- what brackets in memory say of the work behind them
 
 module _ (r : Brackets) where
-  pub brackets-got : (g : Found) → r ≡ brackets_of g → r.outcome ≡ O.Done → g ≡ got (items_of r)
+  pub brackets-got : (g : Found) → r ≡ brackets_of g → r.outcome ≡ no_refusal → g ≡ got (items_of r)
   brackets-got g e o = sym (read_of r g e) ∙ ap (λ (o : Outcome). found_from o (items_of r)) o
 
-  pub brackets-none : (g : Found) (why : Reason) → r ≡ brackets_of g → r.outcome ≡ O.Refused why → g ≡ none why
+  pub brackets-none : (g : Found) (why : Reason) → r ≡ brackets_of g → r.outcome ≡ Err why → g ≡ none why
   brackets-none g why e o = sym (read_of r g e) ∙ ap (λ (o : Outcome). found_from o (items_of r)) o

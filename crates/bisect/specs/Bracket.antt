@@ -1,9 +1,8 @@
 -- Document 01, module 6: each bracket keeps its two end points as floats, in the order found; over 64 is 4. A refusal leaves nothing.
-use Rattle.std.specs.Prelude.{◌≡◌, Bool, true, false, List, [], ◌∷◌, ◌++◌, ◌-◌, ltb, Float, length, take, replicate}
+use Rattle.std.specs.Prelude.{◌≡◌, Bool, true, false, List, [], ◌∷◌, ◌++◌, ◌-◌, ltb, Float, length, take, replicate, Ok, Err}
 use Rattle.std.specs.Float.{binary64}
 use Rattle.std.specs.Float.Ieee.{of_bits}
-use Rattle.ratio.specs.declared.Outcome.{Outcome}
-use Rattle.ratio.specs.declared.Outcome.TheVariants as O
+use Rattle.ratio.specs.Refusal.{Outcome, no_refusal}
 use Rattle.ratio.specs.declared.Reason.{Reason}
 use Rattle.ratio.specs.declared.Reason.TheVariants.{TooLong}
 use Rattle.yun.specs.Got.{Got, got, none}
@@ -33,10 +32,10 @@ abbrev pub unused : Bracket
 unused = record { left = of_bits binary64 0; right = of_bits binary64 0 }
 
 abbrev pub holding : List Bracket → Brackets
-holding l = record { outcome = O.Done; items = l ++ replicate (64 - length l) unused; len = length l }
+holding l = record { outcome = no_refusal; items = l ++ replicate (64 - length l) unused; len = length l }
 
 abbrev pub refused_for : Reason → Brackets
-refused_for why = record { outcome = O.Refused why; items = replicate 64 unused; len = 0 }
+refused_for why = record { outcome = Err why; items = replicate 64 unused; len = 0 }
 
 abbrev pub brackets_of : Found → Brackets
 brackets_of (got l) = holding l
@@ -47,8 +46,8 @@ abbrev pub items_of : Brackets → List Bracket
 items_of r = take r.len r.items
 
 abbrev pub found_from : Outcome → List Bracket → Found
-found_from O.Done l = got l
-found_from (O.Refused why) l = none why
+found_from (Ok _) l = got l
+found_from (Err why) l = none why
 
 abbrev pub found_in : Brackets → Found
 found_in r = found_from r.outcome (items_of r)

@@ -14,7 +14,7 @@ ghost use Rattle.bisect.specs.Bisect.{inner_of, inward as inward_of, bisect_of};
 ghost use Rattle.bisect.specs.Price.{most_calls, PricePromise};
 
 use chain::Chain;
-use ratio::{Outcome, Reason};
+use ratio::Reason;
 
 // Two ends with a root between them, or a root twice.
 #[derive(Clone, Copy)]
@@ -26,7 +26,7 @@ pub struct Bracket {
 // The brackets in the order found, or why there are none.
 #[derive(Clone, Copy)]
 pub struct Brackets {
-    pub outcome: Outcome,
+    pub outcome: Result<(), Reason>,
     pub items: [Bracket; 64],
     pub len: usize,
 }
@@ -55,7 +55,7 @@ pub fn refused(why: Reason) -> Brackets
     ensures is { result ≡ refused_for why }
 {
     Brackets {
-        outcome: Outcome::Refused(why),
+        outcome: Err(why),
         items: [Bracket {
             left: 0.0,
             right: 0.0,
@@ -68,7 +68,7 @@ fn nothing() -> Brackets
     ensures { result ≡ brackets_of (got []) }
 {
     Brackets {
-        outcome: Outcome::Done,
+        outcome: Ok(()),
         items: [Bracket {
             left: 0.0,
             right: 0.0,
@@ -83,7 +83,7 @@ fn push(found: Brackets, a: f64, b: f64) -> Brackets
     ensures { result ≡ brackets_of (then_got (found_in found) (λ l. pushed a b l)) }
 {
     let o = found.outcome;
-    if let Outcome::Refused(_) = o {
+    if let Err(_) = o {
         return found;
     }
     let n = found.len;
@@ -202,7 +202,7 @@ fn bisect_isolate_inner(
     ensures { result ≡ brackets_of (then_got (found_in found) (λ l. inner_of depth (rows_in values.now sizes.now) a.at b.at tol l)) }
 {
     let o = found.outcome;
-    if let Outcome::Refused(_) = o {
+    if let Err(_) = o {
         return found;
     }
     let n = terms::less(a.changes, b.changes);

@@ -1,4 +1,7 @@
 -- The search for a denominator ends at the first that is accepted, or there is none; and the promise of what is found.
+use Rattle.ratio.specs.declared.Reason.{Reason}
+use Rattle.ratio.specs.declared.Ratio.{Ratio}
+use Rattle.std.specs.Prelude.{Result, Ok, Err}
 use Rattle.std.proofs.Common.{◌≡◌, ℕ, zero, suc, ◌+◌, ◌<◌, ◌≤◌, Bool, true, false, T, ℤ, pos, negsuc, nat_abs, sym, refl, ap, ◌∙◌, subst, inl, inr, true≢false, le_trans, le_of_suc-le-suc, eq-or-lt_of_le, div-le_self, div-one, arith, le-leb, leb-true}
 use native.Mathlib.Nat.{eq-one_of_dvd-one}
 use lib.Signed.{lt_z}
@@ -12,8 +15,6 @@ use Rattle.ratio.specs.Refusal.{status_of, ratio_of}
 use Rattle.ratio.specs.Gcd.{gcd_of}
 use Rattle.ratio.specs.Step.{differ, lowest, new_of}
 use Rattle.ratio.specs.Promise.{rat, Fraction}
-use Rattle.ratio.specs.declared.Step.{Step}
-use Rattle.ratio.specs.declared.Step.TheVariants as S
 use Rattle.ratio.specs.declared.Reason.TheVariants.{NotPolynomial, CoeffOverflow}
 use Rattle.ratio.proofs.Fractions.{fraction-is}
 use Rattle.ratio.proofs.Euclid.{is-gcd}
@@ -29,9 +30,9 @@ use Rattle.bridge.proofs.Whole.{near-top, back-top, near-least, back-least, top-
 
 -- ---- the search ends at the first denominator that is accepted, or there is none
 
-data Ended (v : Float) (s : Step) : Type 0 where
+data Ended (v : Float) (s : Result Ratio Reason) : Type 0 where
   hit : (d : ℕ) → First v d → s ≡ over (round_of (scaled v d)) d → Ended v s
-  miss : ((d : ℕ) → First v d → ⊥) → s ≡ S.Refused NotPolynomial → Ended v s
+  miss : ((d : ℕ) → First v d → ⊥) → s ≡ Err NotPolynomial → Ended v s
 
 abbrev Before : Float → ℕ → Type 0
 Before v d = (k : ℕ) → 1 ≤ k → k < d → near v k ≡ false
@@ -109,7 +110,7 @@ top-once v = once _ v _ top-finite near-top back-top
 least-once : (v : Float) → v ≡ of_int binary64 (negsuc 9223372036854775807) → Once v (negsuc 9223372036854775807)
 least-once v = once _ v _ least-finite near-least back-least
 
-none-finds : (v : Float) (s : Step) → s ≡ S.Refused NotPolynomial → (T (finite v) → (d : ℕ) → First v d → ⊥) → Finds v s
+none-finds : (v : Float) (s : Result Ratio Reason) → s ≡ Err NotPolynomial → (T (finite v) → (d : ℕ) → First v d → ⊥) → Finds v s
 none-finds v s e none = record {
   answered = λ f d g w. absurd (none f d g);
   is = λ f d g w. absurd (none f d g);
@@ -127,12 +128,12 @@ none-finds v s e none = record {
 abbrev numer : Float → ℕ → ℤ
 numer v d = round_of (scaled v d)
 
-module _ (v : Float) (s : Step) (d : ℕ) (f : T (finite v)) (g : First v d) where
+module _ (v : Float) (s : Result Ratio Reason) (d : ℕ) (f : T (finite v)) (g : First v d) where
   -- what holds of d holds of any first denominator
   at_first : (P : ℕ → Type 0) → P d → (j : ℕ) → First v j → P j
   at_first P p j h = subst P (unique v d j g h) p
 
-  least-finds : within (numer v d) ≡ false → s ≡ S.Refused CoeffOverflow → Finds v s
+  least-finds : within (numer v d) ≡ false → s ≡ Err CoeffOverflow → Finds v s
   least-finds t e =
       let outside : (j : ℕ) → First v j → Within (numer v j) → ⊥ = at_first (λ j. Within (numer v j) → ⊥) (λ w. true≢false (sym (le-leb _ limit w) ∙ t)) in
       record {
@@ -152,9 +153,9 @@ module _ (v : Float) (s : Step) (d : ℕ) (f : T (finite v)) (g : First v d) whe
   new-finds w e =
       let fr = found-fraction (numer v d) d g.some g.most w in
       let promise = new-answers (numer v d) (pos d) in
-      let done : s ≡ S.Done (lowest (numer v d) (pos d)) = e ∙ sym (new-yes (numer v d) (pos d) (fraction-is _ fr)) in
-      let from-once : (n : ℤ) → Once v n → s ≡ S.Done (record { num = n; den = pos 1 }) =
-      λ n o. at_first (λ k. s ≡ S.Done (lowest (numer v k) (pos k))) done 1 o.first ∙ ap S.Done (ap (λ (z : ℤ). lowest z (pos 1)) o.back ∙ over-one n) in
+      let done : s ≡ Ok (lowest (numer v d) (pos d)) = e ∙ sym (new-yes (numer v d) (pos d) (fraction-is _ fr)) in
+      let from-once : (n : ℤ) → Once v n → s ≡ Ok (record { num = n; den = pos 1 }) =
+      λ n o. at_first (λ k. s ≡ Ok (lowest (numer v k) (pos k))) done 1 o.first ∙ ap Ok (ap (λ (z : ℤ). lowest z (pos 1)) o.back ∙ over-one n) in
       let same : Same (rat (ratio_of s)) (Q.over (numer v d) (pos d)) = rw e (promise.is (promise.answered fr)) in
       record {
         answered = λ i j h u. ap status_of done;
@@ -173,7 +174,7 @@ module _ (v : Float) (s : Step) (d : ℕ) (f : T (finite v)) (g : First v d) whe
   hit-finds true h e = new-finds (leb-true (nat_abs (numer v d)) limit h) (e ∙ sym (over-new (numer v d) d h))
   hit-finds false h e = least-finds h (e ∙ sym (over-least (numer v d) d h))
 
-ended-finds : (v : Float) (s : Step) → T (finite v) → Ended v s → Finds v s
+ended-finds : (v : Float) (s : Result Ratio Reason) → T (finite v) → Ended v s → Finds v s
 ended-finds v s f (hit d g e) = hit-finds v s d f g (within (numer v d)) refl e
 ended-finds v s f (miss none e) = none-finds v s e (λ i. none)
 
@@ -181,5 +182,5 @@ finds-by : (v : Float) (t : Bool) → finite v ≡ t → Finds v (to_ratio v)
 finds-by v true e = subst (Finds v) (searched v e) (ended-finds v (first_from 1000 1 v) (rw e tt) (search-ended v))
 finds-by v false e = none-finds v (to_ratio v) (sym (not_finite v e)) (λ f. absurd (rw e at f))
 
-pub finds-both : (v : Float) (s : Step) → s ≡ to_ratio v → (s ≡ to_ratio v) × Finds v s
+pub finds-both : (v : Float) (s : Result Ratio Reason) → s ≡ to_ratio v → (s ≡ to_ratio v) × Finds v s
 finds-both v s e = (e, subst (Finds v) (sym e) (finds-by v (finite v) refl))

@@ -1,4 +1,5 @@
 -- The test of a difference by two comparisons, and the search one denominator at a time.
+use Rattle.std.specs.Prelude.{Err}
 use Rattle.std.proofs.Common.{◌≡◌, ℕ, suc, ◌+◌, ◌-◌, ◌*◌, ◌<◌, ◌≤◌, Bool, true, false, ◌&&◌, ltb, ℤ, pos, negsuc, sym, refl, ap, ◌∙◌, mul-pos, add-one, arith, lit<, lt→ltb}
 use lib.Ieee.{Float, nan, inf, fin, up, down, lt, neg, of_bits}
 use lib.Ieee.Bits.{is_true}
@@ -6,7 +7,6 @@ use lib.Ieee.Fits.{down_pos, up_pos}
 use lib.Ieee.Scale.{finite}
 use Rattle.ratio.specs.Range.{within}
 use Rattle.ratio.specs.Step.{new_of}
-use Rattle.ratio.specs.declared.Step.TheVariants.{Refused}
 use Rattle.ratio.specs.declared.Reason.TheVariants.{NotPolynomial, CoeffOverflow}
 use Rattle.bridge.specs.Round.{round_of}
 use Rattle.bridge.specs.Search.{absolute, tolerance, small, scaled, near, over, or_else, first_from, to_ratio}
@@ -42,7 +42,7 @@ small-test x = small-fin 4835703278458517 (negsuc 81) (lit< tt) x
 
 -- ---- a numerator over a denominator
 
-pub over-least : (n : ℤ) (d : ℕ) → within n ≡ false → Refused CoeffOverflow ≡ over n d
+pub over-least : (n : ℤ) (d : ℕ) → within n ≡ false → Err CoeffOverflow ≡ over n d
 unfolding over
 over-least n d h = rw h
 
@@ -52,7 +52,7 @@ over-new n d h = rw h
 
 -- ---- the search, at denominator d of 1000
 
-pub not_finite : (v : Float) → finite v ≡ false → Refused NotPolynomial ≡ to_ratio v
+pub not_finite : (v : Float) → finite v ≡ false → Err NotPolynomial ≡ to_ratio v
 unfolding to_ratio
 not_finite v h = rw h
 
@@ -75,6 +75,6 @@ first_next d v h e =
     let i : 1001 - (d + 1) ≡ 1000 - d = omega arith in
     ap (λ (k : ℕ). first_from k (d + 1) v) i ∙ ap (λ (j : ℕ). first_from (1000 - d) j v) (add-one d) ∙ sym (at d v false h e)
 
-pub first-none : (d : ℕ) (v : Float) → 1000 < d → Refused NotPolynomial ≡ first_from (1001 - d) d v
+pub first-none : (d : ℕ) (v : Float) → 1000 < d → Err NotPolynomial ≡ first_from (1001 - d) d v
 unfolding first_from
 first-none d v h = let i : 0 ≡ 1001 - d = omega arith in ap (λ (k : ℕ). first_from k d v) i

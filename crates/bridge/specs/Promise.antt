@@ -1,5 +1,6 @@
 -- Demand 2 for the float bridge: what an answered conversion is.
-use Rattle.std.specs.Prelude.{◌≡◌, ℕ, ◌<◌, ◌≤◌, true, false, T, ℤ, pos, negsuc, int_lt, unsigned_abs, Float}
+use Rattle.ratio.specs.declared.Reason.{Reason}
+use Rattle.std.specs.Prelude.{◌≡◌, ℕ, ◌<◌, ◌≤◌, true, false, T, ℤ, pos, negsuc, int_lt, unsigned_abs, Float, Result, Ok}
 use Rattle.std.specs.Float.{binary64}
 use Rattle.std.specs.Float.Ieee.{of_int, round}
 use Rattle.std.specs.Float.Ieee.Scale.{finite}
@@ -10,8 +11,6 @@ use Rattle.ratio.specs.Refusal.{status_of, ratio_of}
 use Rattle.ratio.specs.Step.{differ}
 use Rattle.ratio.specs.Promise.{rat, Fraction, Lowest}
 use Rattle.ratio.specs.declared.Ratio.{Ratio}
-use Rattle.ratio.specs.declared.Step.{Step}
-use Rattle.ratio.specs.declared.Step.TheVariants.{Done}
 use Rattle.bridge.specs.declared.Rounded.{Rounded}
 use Rattle.bridge.specs.Refusal.{float_status, float_of}
 use Rattle.bridge.specs.Round.{round_of}
@@ -38,7 +37,7 @@ pub record First (v : Float) (d : ℕ) : Type 0 where
 
 -- the first denominator that is accepted decides: answered where the numerator is within the range, else 2; without one, 1
 -- 2^63 is accepted as 2^63 - 1, -2^63 gives 2, and whole numbers that are floats come back
-pub record Finds (v : Float) (s : Step) : Type 0 where
+pub record Finds (v : Float) (s : Result Ratio Reason) : Type 0 where
   pub answered : T (finite v) → (d : ℕ) → First v d → Within (round_of (scaled v d)) → status_of s ≡ 0
   pub is : T (finite v) → (d : ℕ) → First v d → Within (round_of (scaled v d)) → Same (rat (ratio_of s)) (Q.over (round_of (scaled v d)) (pos d))
   pub over : T (finite v) → (d : ℕ) → First v d → (Within (round_of (scaled v d)) → ⊥) → status_of s ≡ 2
@@ -46,6 +45,6 @@ pub record Finds (v : Float) (s : Step) : Type 0 where
   pub infinite : (T (finite v) → ⊥) → status_of s ≡ 1
   pub lowest : status_of s ≡ 0 → Lowest (ratio_of s)
   pub denominator : status_of s ≡ 0 → unsigned_abs (ratio_of s).den ≤ 1000
-  pub top : v ≡ of_int binary64 (pos 9223372036854775808) → s ≡ Done (record { num = pos 9223372036854775807; den = pos 1 })
+  pub top : v ≡ of_int binary64 (pos 9223372036854775808) → s ≡ Ok (record { num = pos 9223372036854775807; den = pos 1 })
   pub least : v ≡ of_int binary64 (negsuc 9223372036854775807) → status_of s ≡ 2
-  pub whole : (n : ℤ) → unsigned_abs n ≤ exact → v ≡ of_int binary64 n → s ≡ Done (record { num = n; den = pos 1 })
+  pub whole : (n : ℤ) → unsigned_abs n ≤ exact → v ≡ of_int binary64 n → s ≡ Ok (record { num = n; den = pos 1 })

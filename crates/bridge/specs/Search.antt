@@ -1,13 +1,13 @@
 -- Document 01, module 2: `f64_to_ratio`. For d = 1 to 1000 take v·d, accept the first d whose float difference is below 1e-9 in size; none is 1.
-use Rattle.std.specs.Prelude.{ℕ, zero, suc, Bool, true, false, ℤ, pos, from_bits, Float}
+use Rattle.ratio.specs.declared.Reason.{Reason}
+use Rattle.ratio.specs.declared.Ratio.{Ratio}
+use Rattle.std.specs.Prelude.{ℕ, zero, suc, Bool, true, false, ℤ, pos, from_bits, Float, Result, Err}
 use Rattle.std.specs.Float.{nan, inf, fin, binary64}
 use Rattle.std.specs.Float.Ieee.{of_int, mul, sub, lt}
 use Rattle.std.specs.Float.Ieee.Scale.{finite}
-use Rattle.ratio.specs.Range.{within}
-use Rattle.ratio.specs.Step.{need, new_of}
+use Rattle.ratio.specs.Range.{within, need}
+use Rattle.ratio.specs.Step.{new_of}
 use Rattle.ratio.specs.declared.Reason.TheVariants.{NotPolynomial, CoeffOverflow}
-use Rattle.ratio.specs.declared.Step.{Step}
-use Rattle.ratio.specs.declared.Step.TheVariants.{Refused}
 use Rattle.bridge.specs.Round.{round_of}
 
 unfoldable pub absolute : Float → Float
@@ -31,18 +31,18 @@ unfoldable pub near : Float → ℕ → Bool
 near v d = small (sub binary64 (scaled v d) (of_int binary64 (round_of (scaled v d))))
 
 -- `Ratio::new`; the numerator -2^63 is 2
-unfoldable pub over : ℤ → ℕ → Step
+unfoldable pub over : ℤ → ℕ → Result Ratio Reason
 over n d = need (within n) CoeffOverflow (new_of n (pos d))
 
-abbrev pub or_else : Bool → Step → Step → Step
+abbrev pub or_else : Bool → Result Ratio Reason → Result Ratio Reason → Result Ratio Reason
 or_else true found rest = found
 or_else false found rest = rest
 
 -- the first of k denominators from d on
-unfoldable pub first_from : ℕ → ℕ → Float → Step
-first_from zero d v = Refused NotPolynomial
+unfoldable pub first_from : ℕ → ℕ → Float → Result Ratio Reason
+first_from zero d v = Err NotPolynomial
 first_from (suc k) d v = or_else (near v d) (over (round_of (scaled v d)) d) (first_from k (suc d) v)
 
 -- not finite is 1
-unfoldable pub to_ratio : Float → Step
+unfoldable pub to_ratio : Float → Result Ratio Reason
 to_ratio v = need (finite v) NotPolynomial (first_from 1000 1 v)

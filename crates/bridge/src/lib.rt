@@ -11,7 +11,7 @@ ghost use Rattle.bridge.specs.Round.{size_of, round_of};
 ghost use Rattle.bridge.specs.Search.{small, over, to_ratio};
 ghost use Rattle.bridge.specs.Promise.{Floats, Finds};
 
-use ratio::{Ratio, Reason, Step};
+use ratio::{Ratio, Reason};
 
 // The float of a fraction.
 #[derive(Clone, Copy)]
@@ -134,24 +134,24 @@ fn is_near(x: f64) -> bool
 }
 
 // `Ratio::new`, with -2^63 kept out.
-fn fraction(numer: i64, denom: u64) -> Step
+fn fraction(numer: i64, denom: u64) -> Result<Ratio, Reason>
     requires { denom ≤ 1000 }
     ensures { result ≡ over numer denom }
 {
     if numer == -9223372036854775808 {
-        return Step::Refused(Reason::CoeffOverflow);
+        return Err(Reason::CoeffOverflow);
     }
     Ratio::new(numer, denom as i64)
 }
 
 // The first denominator up to 1000 that comes close enough. It is counted as a float too: that saves a conversion a round,
 // and keeps the compiler from working sixteen rounds at once, where most floats need one or a few.
-pub fn f64_to_ratio(v: f64) -> Step
+pub fn f64_to_ratio(v: f64) -> Result<Ratio, Reason>
     ensures is { result ≡ to_ratio v }
     ensures promise { Finds v result }
 {
     if !is_finite(v) {
-        return Step::Refused(Reason::NotPolynomial);
+        return Err(Reason::NotPolynomial);
     }
     let mut denom = 1;
     let mut denom_f = 1.0;
@@ -163,5 +163,5 @@ pub fn f64_to_ratio(v: f64) -> Step
         denom += 1;
         denom_f += 1.0;
     }
-    Step::Refused(Reason::NotPolynomial)
+    Err(Reason::NotPolynomial)
 }

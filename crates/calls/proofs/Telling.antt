@@ -1,4 +1,5 @@
 -- What is told of an answer: how an input came in, the number handed back, the work behind an open door.
+use Rattle.std.specs.Prelude.{Result, Ok, Err}
 use mathlib.Core.Path.{◌≡◌, refl, sym, ap, ap₂, ◌∙◌}
 use mathlib.Core.Bool.{true}
 use mathlib.Core.List.{List, [], ◌∷◌, ◌++◌}
@@ -12,15 +13,11 @@ use lib.Seq.{take_all, take-suc, take-suc-set}
 use mir.Syntax.{w64}
 use mir.Val.{SFits, of_z, to_z}
 use mir.Facts.{to_z-of_z}
-use Rattle.ratio.specs.Refusal.{number_of, status_of, zero_r}
+use Rattle.ratio.specs.Refusal.{number_of, status_of, zero_r, Outcome, no_refusal}
 use Rattle.ratio.specs.Step.{is_lowest}
-use Rattle.ratio.specs.declared.Outcome.{Outcome}
-use Rattle.ratio.specs.declared.Outcome.TheVariants as O
 use Rattle.ratio.specs.declared.Ratio.{Ratio}
 use Rattle.ratio.specs.declared.Reason.{Reason}
 use Rattle.ratio.specs.declared.Reason.TheVariants as R
-use Rattle.ratio.specs.declared.Step.{Step}
-use Rattle.ratio.specs.declared.Step.TheVariants as S
 use Rattle.terms.specs.declared.Answer.{Answer}
 use Rattle.terms.specs.declared.Poly.{Poly}
 use Rattle.terms.specs.Poly.{terms_of}
@@ -43,7 +40,7 @@ use Rattle.calls.specs.Call.{gate_of, number_told, point_of, two_of, limits_of, 
 
 -- ---- how an input came in
 
-module _ (o : Outcome) (w : Reason) (k : ℕ) (e : k ≡ number_of w) (f : o ≡ O.Refused w) where
+module _ (o : Outcome) (w : Reason) (k : ℕ) (e : k ≡ number_of w) (f : o ≡ Err w) where
   pub gate-long : k ≡ 4 → Long ≡ gate_of o
   gate-long h = rw (f, eq-eqb (number_of w) 4 (sym e ∙ h))
 
@@ -63,10 +60,10 @@ number-few R.Budget = omega arith
 number-few R.TooDeep = omega arith
 number-few R.NoRoom = omega arith
 
-pub number-done : (o : Outcome) (k : ℕ) → o ≡ O.Done → k % 72057594037927936 * 16 ≡ number_told o k
+pub number-done : (o : Outcome) (k : ℕ) → o ≡ no_refusal → k % 72057594037927936 * 16 ≡ number_told o k
 number-done o k e = rw e (omega arith)
 
-pub number-refused : (o : Outcome) (k n : ℕ) (w : Reason) → o ≡ O.Refused w → n ≡ number_of w → k % 72057594037927936 * 16 + n ≡ number_told o k
+pub number-refused : (o : Outcome) (k n : ℕ) (w : Reason) → o ≡ Err w → n ≡ number_of w → k % 72057594037927936 * 16 + n ≡ number_told o k
 number-refused o k n w e f = rw (e, f)
 
 -- ---- the constant term
@@ -141,10 +138,10 @@ module _ {A : Type 0} (out : A → Outcome) (t m : A) (e : t ≡ m) where
   pub told-number : (steps : A → ℕ) (k : ℕ) → k ≡ number_told (out t) (steps t) → k ≡ number_told (out m) (steps m)
   told-number steps k f = f ∙ ap (λ (a : A). number_told (out a) (steps a)) e
 
-  pub wrote : {X : Type 0} (f : A → List X) (old new : List X) → out t ≡ O.Done → new ≡ f t → new ≡ lent_after (out m) old (f m)
+  pub wrote : {X : Type 0} (f : A → List X) (old new : List X) → out t ≡ no_refusal → new ≡ f t → new ≡ lent_after (out m) old (f m)
   wrote f old new h g = g ∙ ap (λ (o : Outcome). lent_after o old (f t)) (sym h) ∙ ap (λ (a : A). lent_after (out a) old (f a)) e
 
-  pub kept : {X : Type 0} (old new : List X) (w : Reason) → out t ≡ O.Refused w → old ≡ lent_after (out m) old new
+  pub kept : {X : Type 0} (old new : List X) (w : Reason) → out t ≡ Err w → old ≡ lent_after (out m) old new
   kept old new w h = ap (λ (o : Outcome). lent_after o old new) (sym h ∙ ap out e)
 
 -- ---- a single step
@@ -157,14 +154,14 @@ pub step-read : (op : ℕ) (a b x y : ℤ) → SFits w64 a → SFits w64 b → S
     → step_for op (record { num = read a; den = read b }) (record { num = read x; den = read y }) ≡ step_for op (record { num = a; den = b }) (record { num = x; den = y })
 step-read op a b x y f g h k = rw (to_z-of_z f, to_z-of_z g, to_z-of_z h, to_z-of_z k)
 
-module _ (m : Step) (v : Ratio) (e : m ≡ S.Done v) where
+module _ (m : Result Ratio Reason) (v : Ratio) (e : m ≡ Ok v) where
   pub step-done : 0 ≡ status_of m
   step-done = ap status_of (sym e)
 
   pub step-lent : (old : List ℤ) → SFits w64 v.num → SFits w64 v.den → read v.num ∷ read v.den ∷ [] ≡ lent_step old m
   step-lent old f g = ap₂ (λ (n d : ℤ). n ∷ d ∷ []) (to_z-of_z f) (to_z-of_z g) ∙ ap (lent_step old) (sym e)
 
-module _ (m : Step) (w : Reason) (e : m ≡ S.Refused w) where
+module _ (m : Result Ratio Reason) (w : Reason) (e : m ≡ Err w) where
   pub step-refused : (k : ℕ) → k ≡ number_of w → k ≡ status_of m
   step-refused k f = f ∙ ap status_of (sym e)
 

@@ -1,13 +1,10 @@
 -- The engine for programs in other languages: which operation a number names, what it answers, and which lent entries are written.
-use Rattle.std.specs.Prelude.{Bool, true, false, cond, List, [], ◌∷◌, map, ℕ, ◌+◌, ◌*◌, ◌%◌, eqb, ltb, ℤ, pos, nat_abs, get_or}
-use Rattle.ratio.specs.Refusal.{number_of, outcome_status, zero_r}
+use Rattle.ratio.specs.declared.Reason.{Reason}
+use Rattle.std.specs.Prelude.{Bool, true, false, cond, List, [], ◌∷◌, map, ℕ, ◌+◌, ◌*◌, ◌%◌, eqb, ltb, ℤ, pos, nat_abs, get_or, Result, Ok, Err}
+use Rattle.ratio.specs.Refusal.{number_of, zero_r, Outcome, status_of, no_refusal}
 use Rattle.ratio.specs.Step as M
-use Rattle.ratio.specs.declared.Outcome.{Outcome}
-use Rattle.ratio.specs.declared.Outcome.TheVariants as O
 use Rattle.ratio.specs.declared.Ratio.{Ratio}
 use Rattle.ratio.specs.declared.Reason.TheVariants.{BadInput}
-use Rattle.ratio.specs.declared.Step.{Step}
-use Rattle.ratio.specs.declared.Step.TheVariants as S
 use Rattle.terms.specs.declared.Answer.{Answer}
 use Rattle.terms.specs.declared.Poly.{Poly}
 use Rattle.terms.specs.Machine.{whole_r}
@@ -45,9 +42,9 @@ constant_of r = poly_of (trim (r ∷ []))
 abbrev pub told_whole : Whole → Division
 told_whole w = tell w.outcome (constant_of (whole_r w.value)) w.steps
 
-abbrev pub told_step : Step → Division
-told_step (S.Done r) = tell O.Done (constant_of r) 0
-told_step (S.Refused why) = no_division why 0
+abbrev pub told_step : Result Ratio Reason → Division
+told_step (Ok r) = tell no_refusal (constant_of r) 0
+told_step (Err why) = no_division why 0
 
 -- a list of roots is told as its entries, and their number as the second
 abbrev pub told_roots : Roots → Division
@@ -125,8 +122,8 @@ gate_if false = Bad
 
 -- how a polynomial came in: 4 is too long
 abbrev pub gate_of : Outcome → Gate
-gate_of O.Done = Open
-gate_of (O.Refused why) = gate_if (eqb (number_of why) 4)
+gate_of (Ok _) = Open
+gate_of (Err why) = gate_if (eqb (number_of why) 4)
 
 abbrev pub open_unless : Bool → Gate → Gate
 open_unless true d = Open
@@ -151,19 +148,19 @@ dens_of p = map (λ (r : Ratio). r.den) p.coeffs
 
 -- what is handed back: 16 times the steps (below 2^56), plus the status
 abbrev pub number_told : Outcome → ℕ → ℕ
-number_told o k = k % 72057594037927936 * 16 + outcome_status o
+number_told o k = k % 72057594037927936 * 16 + status_of o
 
 -- an answer is written, a refusal leaves what was there
 abbrev pub lent_after : {X : Type 0} → Outcome → List X → List X → List X
-lent_after O.Done old new = new
-lent_after (O.Refused why) old new = old
+lent_after (Ok _) old new = new
+lent_after (Err why) old new = old
 
-abbrev pub pick : Bool → Step → Step → Step
+abbrev pub pick : Bool → Result Ratio Reason → Result Ratio Reason → Result Ratio Reason
 pick true s t = s
 pick false s t = t
 
 -- one rational step: 0 the sum, 1 the difference, 2 the product, 3 the negative, 4 the inverse, 5 lowest terms; another number is 5
-abbrev pub step_for : ℕ → Ratio → Ratio → Step
+abbrev pub step_for : ℕ → Ratio → Ratio → Result Ratio Reason
 step_for op a b =
     pick (eqb op 0) (M.add_of a b)
     (pick (eqb op 1) (M.sub_of a b)
@@ -171,9 +168,9 @@ step_for op a b =
     (pick (eqb op 3) (M.neg_of a)
     (pick (eqb op 4) (M.inv_of a)
     (pick (eqb op 5) (M.new_of a.num a.den)
-    (S.Refused BadInput))))))
+    (Err BadInput))))))
 
 -- numerator and denominator of an answer; a refusal leaves what was there
-abbrev pub lent_step : List ℤ → Step → List ℤ
-lent_step old (S.Done r) = r.num ∷ r.den ∷ []
-lent_step old (S.Refused why) = old
+abbrev pub lent_step : List ℤ → Result Ratio Reason → List ℤ
+lent_step old (Ok r) = r.num ∷ r.den ∷ []
+lent_step old (Err why) = old

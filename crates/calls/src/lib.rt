@@ -11,7 +11,7 @@ ghost use Rattle.ratio.specs.Refusal.{status_of};
 use euclid::Whole;
 use factor::Factorization;
 use poly::Gate;
-use ratio::{Outcome, Ratio, Reason, Step};
+use ratio::{Ratio, Reason};
 use remainders::Division;
 use search::Roots;
 use terms::{Answer, Poly};
@@ -55,17 +55,17 @@ fn told_whole(w: Whole) -> Division
     }
 }
 
-fn told_step(s: Step) -> Division
+fn told_step(s: Result<Ratio, Reason>) -> Division
     ensures { result ≡ told_step s }
 {
     match s {
-        Step::Done(v) => Division {
-            outcome: Outcome::Done,
+        Ok(v) => Division {
+            outcome: Ok(()),
             quotient: constant(v),
             rest: Poly::zero(),
             steps: 0,
         },
-        Step::Refused(why) => remainders::no_division(why, 0),
+        Err(why) => remainders::no_division(why, 0),
     }
 }
 
@@ -231,12 +231,12 @@ fn two(op: u64, a: Poly, b: Poly, n: usize) -> Division
 }
 
 // How a list of an input came in.
-pub fn gate(o: Outcome) -> Gate
+pub fn gate(o: Result<(), Reason>) -> Gate
     ensures is { result ≡ gate_of o }
 {
     match o {
-        Outcome::Done => Gate::Open,
-        Outcome::Refused(why) => {
+        Ok(()) => Gate::Open,
+        Err(why) => {
             if ratio::number(why) == 4 {
                 Gate::Long
             } else {
@@ -308,13 +308,13 @@ pub fn dens(p: Poly) -> [i64; 32]
 }
 
 // What is handed back: 16 times the steps, plus the status.
-pub fn number(o: Outcome, steps: u64) -> u64
+pub fn number(o: Result<(), Reason>, steps: u64) -> u64
     ensures is { result ≡ number_told o steps }
 {
     let up = steps % 72057594037927936 * 16;
     match o {
-        Outcome::Done => up,
-        Outcome::Refused(why) => up + ratio::number(why),
+        Ok(()) => up,
+        Err(why) => up + ratio::number(why),
     }
 }
 
@@ -339,20 +339,20 @@ pub fn kanrosuye_call(
     let t = called(op, an, ad, bn, bd, n);
     let o = t.outcome;
     match o {
-        Outcome::Done => {
+        Ok(()) => {
             *qn = nums(t.quotient);
             *qd = dens(t.quotient);
             *rn = nums(t.rest);
             *rd = dens(t.rest);
             number(o, t.steps)
         }
-        Outcome::Refused(why) => number(Outcome::Refused(why), t.steps),
+        Err(why) => number(Err(why), t.steps),
     }
 }
 
 // ---- single steps
 
-fn step(op: u64, a: Ratio, b: Ratio) -> Step
+fn step(op: u64, a: Ratio, b: Ratio) -> Result<Ratio, Reason>
     ensures { result ≡ step_for op a b }
 {
     if op == 0 {
@@ -368,7 +368,7 @@ fn step(op: u64, a: Ratio, b: Ratio) -> Step
     } else if op == 5 {
         Ratio::new(a.num, a.den)
     } else {
-        Step::Refused(Reason::BadInput)
+        Err(Reason::BadInput)
     }
 }
 
@@ -379,10 +379,10 @@ pub fn kanrosuye_step(op: u64, an: i64, ad: i64, bn: i64, bd: i64, out: &mut [i6
 {
     let s = step(op, Ratio { num: an, den: ad }, Ratio { num: bn, den: bd });
     match s {
-        Step::Done(v) => {
+        Ok(v) => {
             *out = [v.num, v.den];
             0
         }
-        Step::Refused(why) => ratio::number(why),
+        Err(why) => ratio::number(why),
     }
 }

@@ -15,7 +15,7 @@ ghost use Rattle.calls_real.specs.Real.{lent_float, counted_of, isolated_of, wri
 use bridge::Rounded;
 use isolate::Isolation;
 use poly::Gate;
-use ratio::{Outcome, Ratio, Step};
+use ratio::Ratio;
 use sturm::Count;
 
 // ---- floats
@@ -42,11 +42,11 @@ pub fn kanrosuye_to_ratio(v: f64, out: &mut [i64; 2]) -> u64
 {
     let s = bridge::f64_to_ratio(v);
     match s {
-        Step::Done(x) => {
+        Ok(x) => {
             *out = [x.num, x.den];
             0
         }
-        Step::Refused(why) => ratio::number(why),
+        Err(why) => ratio::number(why),
     }
 }
 
@@ -62,7 +62,7 @@ fn counted(an: &[i64], ad: &[i64], lo: f64, hi: f64) -> Count
         sturm::count_real_roots(a.poly, lo, hi)
     } else {
         Count {
-            outcome: Outcome::Refused(poly::reason(d)),
+            outcome: Err(poly::reason(d)),
             count: 0,
         }
     }
@@ -87,7 +87,7 @@ fn isolated(an: &[i64], ad: &[i64], lo: f64, hi: f64, tol: f64) -> Isolation
         isolate::isolate_real_roots(a.poly, lo, hi, tol)
     } else {
         Isolation {
-            outcome: Outcome::Refused(poly::reason(d)),
+            outcome: Err(poly::reason(d)),
             roots: [0.0; 64],
             len: 0,
         }
@@ -110,12 +110,12 @@ pub fn kanrosuye_isolate(
     let o = r.outcome;
     let n = r.len as u64;
     match o {
-        Outcome::Done => {
+        Ok(()) => {
             let roots = r.roots;
             *out = roots;
             calls::number(o, n)
         }
-        Outcome::Refused(why) => calls::number(Outcome::Refused(why), n),
+        Err(why) => calls::number(Err(why), n),
     }
 }
 
@@ -130,12 +130,12 @@ pub fn kanrosuye_lower(text: &[u8], wrt: u64, nums: &mut [i64; 32], dens: &mut [
     let a = lower::from_lowered(text, wrt);
     let o = a.outcome;
     match o {
-        Outcome::Done => {
+        Ok(()) => {
             *nums = calls::nums(a.poly);
             *dens = calls::dens(a.poly);
             calls::number(o, a.steps)
         }
-        Outcome::Refused(why) => calls::number(Outcome::Refused(why), a.steps),
+        Err(why) => calls::number(Err(why), a.steps),
     }
 }
 
@@ -159,6 +159,6 @@ pub fn kanrosuye_to_lowered(an: &[i64], ad: &[i64], wrt: u64, out: &mut [u8]) ->
         let ow = w.outcome;
         calls::number(ow, w.len as u64)
     } else {
-        calls::number(Outcome::Refused(poly::reason(d)), 0)
+        calls::number(Err(poly::reason(d)), 0)
     }
 }

@@ -1,10 +1,11 @@
 -- What a chain of the code says of the model's: its entries, or the reason that is handed on.
+use Rattle.ratio.specs.Refusal.{no_refusal}
+use Rattle.std.specs.Prelude.{Ok, Err}
 use mathlib.Core.Path.{◌≡◌, refl, sym, ap, ◌∙◌}
 use mathlib.Core.List.{List, [], ◌∷◌, ◌++◌, map}
 use Prim.Native.Nat.{ℕ, ◌-◌}
 use lib.ListN.{length, take, replicate, length-map}
 use lib.Seq.{take-append_seam}
-use Rattle.ratio.specs.declared.Outcome.TheVariants as O
 use Rattle.ratio.specs.declared.Ratio.{Ratio}
 use Rattle.ratio.specs.declared.Reason.{Reason}
 use Rattle.terms.specs.declared.Poly.{Poly}
@@ -26,10 +27,10 @@ holding-entries l =
     ∙ read_back l
 
 module _ (c : Chain) where
-  pub chain-got : (s : Got (List (List Ratio))) → c ≡ chain_of s → c.outcome ≡ O.Done → s ≡ got (entries_of c)
+  pub chain-got : (s : Got (List (List Ratio))) → c ≡ chain_of s → c.outcome ≡ no_refusal → s ≡ got (entries_of c)
   chain-got (got l) e o = ap got (sym (ap entries_of e ∙ holding-entries l))
   chain-got (none why) e o = done_refused c.outcome why o (ap (λ (x : Chain). x.outcome) e)
 
-  pub chain-none : (s : Got (List (List Ratio))) (why : Reason) → c ≡ chain_of s → c.outcome ≡ O.Refused why → s ≡ none why
+  pub chain-none : (s : Got (List (List Ratio))) (why : Reason) → c ≡ chain_of s → c.outcome ≡ Err why → s ≡ none why
   chain-none (got l) why e o = done_refused c.outcome why (ap (λ (x : Chain). x.outcome) e) o
   chain-none (none j) why e o = cc

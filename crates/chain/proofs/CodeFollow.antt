@@ -1,11 +1,12 @@
 -- The loop: what is left of the chain, behind what is found, gives the whole of it. The lengths fall, so that 32 places are enough.
+use Rattle.ratio.specs.Refusal.{no_refusal}
+use Rattle.std.specs.Prelude.{Ok, Err}
 use mathlib.Core.Path.{◌≡◌, refl, sym, ap, ◌∙◌}
 use mathlib.Core.List.{List, [], ◌∷◌, ◌++◌, map, append_assoc, map-append}
 use Prim.Native.Nat.{ℕ, zero, suc, ◌+◌, ◌-◌, ◌<◌, ◌≤◌}
 use native.Mathlib.Omega.{arith}
 use lib.ListN.{length, set, replicate, length-append, length-map}
 use lib.Seq.{set-append_seam}
-use Rattle.ratio.specs.declared.Outcome.TheVariants as O
 use Rattle.ratio.specs.declared.Ratio.{Ratio}
 use Rattle.ratio.specs.declared.Reason.{Reason}
 use Rattle.terms.specs.declared.Answer.{Answer}
@@ -33,7 +34,7 @@ pub added-holding : (l : List (List Ratio)) (p : Poly) → length l < 32 → p �
 added-holding l p h e =
     let n : length (l ++ (terms_of p ∷ [])) ≡ length l + 1 = length-append l (terms_of p ∷ []) in
     let m : map poly_of (l ++ (terms_of p ∷ [])) ≡ map poly_of l ++ (poly_of (terms_of p) ∷ []) = map-append poly_of l (terms_of p ∷ []) in
-    rw (n, m, sym e) (ap {B = Chain} (λ (s : List Poly). record { outcome = O.Done; polys = s; len = length l + 1 }) (filled (map poly_of l) p (poly_of []) (length l) (32 - length l) (32 - (length l + 1)) (sym (length-map l poly_of)) (omega arith)))
+    rw (n, m, sym e) (ap {B = Chain} (λ (s : List Poly). record { outcome = no_refusal; polys = s; len = length l + 1 }) (filled (map poly_of l) p (poly_of []) (length l) (32 - length l) (32 - (length l + 1)) (sym (length-map l poly_of)) (omega arith)))
 
 -- ---- what is found stands before the rest
 
@@ -97,15 +98,15 @@ module _ (p d : List Ratio) (out : Chain) (a : List Ratio) (b : Poly) (g : Going
     step = ap (front g.found) (sym (behind_more g.fuel a (terms_of b) h g.enough)) ∙ g.whole
 
     module _ (w : Answer) (e : Links (next_of a (terms_of b)) w) where
-      pub going-refused : (why : Reason) → w.outcome ≡ O.Refused why → refused_for why ≡ chain_of (behind (length d) p d)
+      pub going-refused : (why : Reason) → w.outcome ≡ Err why → refused_for why ≡ chain_of (behind (length d) p d)
       going-refused why o = ap chain_of (rw (link-none w (next_of a (terms_of b)) why e o) at step)
 
-      pub going-short : w.outcome ≡ O.Done → length (terms_of w.poly) < length (terms_of b)
+      pub going-short : w.outcome ≡ no_refusal → length (terms_of w.poly) < length (terms_of b)
       going-short o =
           let (l, k, q) = link-got w (next_of a (terms_of b)) e o in
           rw (q, terms-of-poly l) (next-short a (terms_of b) l h k)
 
-      pub going_more : (next : Chain) → next ≡ added out b → w.outcome ≡ O.Done → Going p d next (terms_of b) w.poly
+      pub going_more : (next : Chain) → next ≡ added out b → w.outcome ≡ no_refusal → Going p d next (terms_of b) w.poly
       going_more next u o =
           let (l, k, q) = link-got w (next_of a (terms_of b)) e o in
           record {

@@ -1,10 +1,11 @@
 -- One link: what the code hands over is the negated remainder, and that is shorter than the divisor.
+use Rattle.ratio.specs.Refusal.{no_refusal}
+use Rattle.std.specs.Prelude.{Ok, Err}
 use mathlib.Core.Path.{◌≡◌, refl, ap}
 use mathlib.Core.List.{List, [], ◌∷◌}
 use Prim.Native.Nat.{ℕ, ◌<◌, ◌≤◌}
 use native.Mathlib.Omega.{arith}
 use lib.ListN.{length}
-use Rattle.ratio.specs.declared.Outcome.TheVariants as O
 use Rattle.ratio.specs.declared.Ratio.{Ratio}
 use Rattle.ratio.specs.declared.Reason.{Reason}
 use Rattle.terms.specs.declared.Answer.{Answer}
@@ -28,22 +29,22 @@ list-links (fine k l) w e = (ap (λ (x : Answer). x.outcome) e, ap (λ (x : Answ
 list-links (over k) w e = ap (λ (x : Answer). x.outcome) e
 
 module _ (a b : List Ratio) (d : Division) (e : d ≡ divided_of a b) where
-  pub next-refused : (why : Reason) (w : Answer) → d.outcome ≡ O.Refused why → w ≡ refused_with why 0 → Links (next_of a b) w
+  pub next-refused : (why : Reason) (w : Answer) → d.outcome ≡ Err why → w ≡ refused_with why 0 → Links (next_of a b) w
   unfolding next_of
   next-refused why w o f = rw (parts_none d a b why e o) (ap (λ (x : Answer). x.outcome) f)
 
-  pub next-done : (w : Answer) → d.outcome ≡ O.Done → w ≡ answer_of (negated_of (terms_of d.rest)) → Links (next_of a b) w
+  pub next-done : (w : Answer) → d.outcome ≡ no_refusal → w ≡ answer_of (negated_of (terms_of d.rest)) → Links (next_of a b) w
   unfolding next_of
   next-done w o f = rw (parts-got d a b e o) (list-links (negated_of (terms_of d.rest)) w f)
 
 -- ---- what the link is, from what the code hands over
 
 module _ (w : Answer) where
-  pub link-got : (g : Got (List Ratio)) → Links g w → w.outcome ≡ O.Done → (l : List Ratio) × (g ≡ got l) × (w.poly ≡ poly_of l)
+  pub link-got : (g : Got (List Ratio)) → Links g w → w.outcome ≡ no_refusal → (l : List Ratio) × (g ≡ got l) × (w.poly ≡ poly_of l)
   link-got (got l) k o = (l, refl, k.1)
   link-got (none why) k o = done_refused w.outcome why o k
 
-  pub link-none : (g : Got (List Ratio)) (why : Reason) → Links g w → w.outcome ≡ O.Refused why → g ≡ none why
+  pub link-none : (g : Got (List Ratio)) (why : Reason) → Links g w → w.outcome ≡ Err why → g ≡ none why
   link-none (got l) why k o = done_refused w.outcome why k.0 o
   link-none (none j) why k o = cc
 

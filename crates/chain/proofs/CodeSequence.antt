@@ -1,10 +1,11 @@
 -- The chain's start: the polynomial without zeros at the top and its derivative, each way it can go.
+use Rattle.ratio.specs.Refusal.{no_refusal}
+use Rattle.std.specs.Prelude.{Ok, Err}
 use mathlib.Core.Path.{◌≡◌, refl, sym, ap, ◌∙◌}
 use mathlib.Core.List.{List, [], ◌∷◌}
 use Prim.Native.Nat.{ℕ, ◌<◌, ◌≤◌}
 use native.Mathlib.Omega.{arith}
 use lib.ListN.{length}
-use Rattle.ratio.specs.declared.Outcome.TheVariants as O
 use Rattle.ratio.specs.declared.Ratio.{Ratio}
 use Rattle.ratio.specs.declared.Reason.{Reason}
 use Rattle.terms.specs.declared.Answer.{Answer}
@@ -44,10 +45,10 @@ module _ (p : List Ratio) (f : Poly) (e : f ≡ poly_of (trim p)) where
     unfolding sequence_of
     sequence-is = sym (started-some (terms_of f) h) ∙ ap started terms-are
 
-    pub sequence-refused : (why : Reason) → d.outcome ≡ O.Refused why → refused_for why ≡ chain_of (sequence_of p)
+    pub sequence-refused : (why : Reason) → d.outcome ≡ Err why → refused_for why ≡ chain_of (sequence_of p)
     sequence-refused why o = ap chain_of (rw (list-none d (derived plain (terms_of f) 0) why ed o) at sequence-is)
 
-    pub sequence-done : d.outcome ≡ O.Done → chain_of (behind (length (terms_of d.poly)) (terms_of f) (terms_of d.poly)) ≡ chain_of (sequence_of p)
+    pub sequence-done : d.outcome ≡ no_refusal → chain_of (behind (length (terms_of d.poly)) (terms_of f) (terms_of d.poly)) ≡ chain_of (sequence_of p)
     sequence-done o = ap chain_of (rw (list-got d (derived plain (terms_of f) 0) ed o) at sequence-is)
 
     pub slope-made : d.poly ≡ poly_of (terms_of d.poly)

@@ -8,13 +8,13 @@ ghost use Rattle.chain.specs.Next.{next_of};
 ghost use Rattle.chain.specs.Sequence.{behind, sequence_of};
 ghost use Rattle.chain.specs.Answer.{Links, refused_for, holding, chain_of};
 
-use ratio::{Outcome, Reason};
+use ratio::Reason;
 use terms::{Answer, Poly};
 
 // The polynomials of the chain, or why there are none.
 #[derive(Clone, Copy)]
 pub struct Chain {
-    pub outcome: Outcome,
+    pub outcome: Result<(), Reason>,
     pub polys: [Poly; 32],
     pub len: usize,
 }
@@ -23,7 +23,7 @@ pub fn refused(why: Reason) -> Chain
     ensures is { result ≡ refused_for why }
 {
     Chain {
-        outcome: Outcome::Refused(why),
+        outcome: Err(why),
         polys: [Poly::zero(); 32],
         len: 0,
     }
@@ -33,7 +33,7 @@ fn empty() -> Chain
     ensures { result ≡ holding [] }
 {
     Chain {
-        outcome: Outcome::Done,
+        outcome: Ok(()),
         polys: [Poly::zero(); 32],
         len: 0,
     }
@@ -45,7 +45,7 @@ fn next(a: Poly, b: Poly) -> Answer
 {
     let d = remainders::divide(a, b);
     let o = d.outcome;
-    if let Outcome::Refused(why) = o {
+    if let Err(why) = o {
         return terms::refused(why, 0);
     }
     let rest = d.rest;
@@ -69,7 +69,7 @@ fn follow(p: Poly, d: Poly) -> Chain
         out.len = n + 1;
         let r = next(a, b);
         let o = r.outcome;
-        if let Outcome::Refused(why) = o {
+        if let Err(why) = o {
             return refused(why);
         }
         a = b;
@@ -88,7 +88,7 @@ pub fn sequence(p: Poly) -> Chain
     }
     let d = f.differentiate();
     let o = d.outcome;
-    if let Outcome::Refused(why) = o {
+    if let Err(why) = o {
         return refused(why);
     }
     let df = d.poly;

@@ -1,4 +1,5 @@
 -- For callers that walk a listing: what an answered one lists divides n, is within the range and is not zero, and what holds for all that is listed holds for each divisor.
+use Rattle.ratio.specs.Refusal.{status_of}
 use mathlib.Core.Path.{◌≡◌, refl, sym, ap, ◌∙◌, subst}
 use mathlib.Core.Bool.{Bool, true, false}
 use mathlib.Core.List.{List, [], ◌∷◌}
@@ -8,7 +9,6 @@ use native.Mathlib.Decide.{dec_le, dec_dvd}
 use native.Mathlib.Omega.{arith}
 use lib.IntN.{ℤ, pos, nat_abs}
 use Rattle.ratio.specs.Range.{limit, Within}
-use Rattle.ratio.specs.Refusal.{outcome_status}
 use Rattle.algebra.proofs.Whole.{abs-above}
 use Rattle.divisors.specs.declared.Found.{Found}
 use Rattle.divisors.specs.declared.Found.TheVariants.{At}
@@ -49,7 +49,7 @@ pub record Listed (n z : ℤ) : Type 0 where
   pub some : z ≡ pos 0 → ⊥
   pub divides : DivisorOf n z
 
-module _ (n : ℤ) (budget : ℕ) (l : Listing) (promise : Lists n budget l) (done : outcome_status l.outcome ≡ 0) where
+module _ (n : ℤ) (budget : ℕ) (l : Listing) (promise : Lists n budget l) (done : status_of l.outcome ≡ 0) where
   -- only what is allowed is answered
   pub answered-allowed : Allowed n budget
   answered-allowed = by (dec_le (nat_abs n) limit) (dec_le 1 budget) (dec_le budget 65536)

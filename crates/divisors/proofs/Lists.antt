@@ -1,4 +1,5 @@
 -- `listing_of` keeps its promise: it refuses exactly where it should, and an answered listing holds each divisor once.
+use Rattle.std.specs.Prelude.{Ok}
 use mathlib.Core.Path.{◌≡◌, refl, sym, ap, ◌∙◌, subst}
 use mathlib.Core.List.{[]}
 use Prim.Native.Nat.{ℕ, ◌+◌, ◌*◌, ◌<◌, ◌≤◌, ◌∣◌}
@@ -6,9 +7,8 @@ use native.Mathlib.Decide.{dec_le, dec_lt, ℕ_discrete}
 use native.Mathlib.Omega.{arith}
 use lib.IntN.{ℤ, nat_abs}
 use Rattle.ratio.specs.Range.{limit}
-use Rattle.ratio.specs.Refusal.{outcome_status, number_of}
+use Rattle.ratio.specs.Refusal.{number_of, status_of, no_refusal}
 use Rattle.ratio.specs.declared.Reason.{Reason}
-use Rattle.ratio.specs.declared.Outcome.TheVariants.{Done}
 use Rattle.ratio.specs.declared.Reason.TheVariants.{BadInput, Budget}
 use Rattle.algebra.proofs.Whole.{abs-above}
 use Rattle.algebra.proofs.WholeDivides.{dvd-abs, abs-dvd}
@@ -32,7 +32,7 @@ refused-nothing : (why : Reason) → listed (refused_by why) ≡ []
 unfolding refused_by
 refused-nothing why = rest-blank 0 1024 (omega arith)
 
-refused-status : (why : Reason) → outcome_status (refused_by why).outcome ≡ number_of why
+refused-status : (why : Reason) → status_of (refused_by why).outcome ≡ number_of why
 unfolding refused_by
 refused-status why = refl
 
@@ -74,7 +74,7 @@ module _ (n : ℤ) (budget : ℕ) where
     refused = λ e. refused-nothing Budget;
   }
 
-  done : Allowed n budget → nat_abs n < (budget + 1) * (budget + 1) → Lists n budget (record { outcome = Done; size = nat_abs n; marks = marks_of (nat_abs n) })
+  done : Allowed n budget → nat_abs n < (budget + 1) * (budget + 1) → Lists n budget (record { outcome = no_refusal; size = nat_abs n; marks = marks_of (nat_abs n) })
   done a h = record {
     bad = λ b. absurd (b a);
     over = λ b r q l. absurd (omega (arith, root-least r q h));
@@ -85,7 +85,7 @@ module _ (n : ℤ) (budget : ℕ) where
     refused = λ e. absurd (e refl);
   }
     where
-      in_order : listed (record { outcome = Done; size = nat_abs n; marks = marks_of (nat_abs n) }) ≡ factors_of (nat_abs n)
+      in_order : listed (record { outcome = no_refusal; size = nat_abs n; marks = marks_of (nat_abs n) }) ≡ factors_of (nat_abs n)
       in_order = rest-factors (nat_abs n) a.number
 
       small : nat_abs n < 65537 * 65537

@@ -1,4 +1,6 @@
 -- What `next_of` and `listing_of` are, by the cases in which the code goes.
+use Rattle.ratio.specs.Refusal.{no_refusal}
+use Rattle.std.specs.Prelude.{Ok}
 use mathlib.Core.Path.{◌≡◌, refl, sym, ap, ◌∙◌}
 use mathlib.Core.Bool.{Bool, true, false, ◌&&◌}
 use mathlib.Core.List.{List}
@@ -8,7 +10,6 @@ use borrow.Author.Tests.{lt-ltb, le-ltb, le-leb, lt-leb, eq-eqb, ne_eqb}
 use lib.Dec.{leb}
 use lib.IntN.{ℤ, pos, nat_abs}
 use Rattle.ratio.specs.Range.{limit}
-use Rattle.ratio.specs.declared.Outcome.TheVariants.{Done}
 use Rattle.ratio.specs.declared.Reason.TheVariants.{BadInput, Budget}
 use Rattle.divisors.specs.declared.Entry.TheVariants.{Is, Nothing}
 use Rattle.divisors.specs.declared.Found.{Found}
@@ -74,6 +75,6 @@ module _ (n : ℤ) (budget : ℕ) where
   unfolding listing_of
   listing-budget h e g l = rw (le-ltb limit (nat_abs n) h, ne_eqb budget 0 e, le-ltb 65536 budget g, le-leb ((budget + 1) * (budget + 1)) (nat_abs n) l)
 
-  pub listing-done : nat_abs n ≤ limit → (budget ≡ 0 → ⊥) → budget ≤ 65536 → nat_abs n < (budget + 1) * (budget + 1) → listing_of n budget ≡ record { outcome = Done; size = nat_abs n; marks = marks_of (nat_abs n) }
+  pub listing-done : nat_abs n ≤ limit → (budget ≡ 0 → ⊥) → budget ≤ 65536 → nat_abs n < (budget + 1) * (budget + 1) → listing_of n budget ≡ record { outcome = no_refusal; size = nat_abs n; marks = marks_of (nat_abs n) }
   unfolding listing_of
   listing-done h e g l = rw (le-ltb limit (nat_abs n) h, ne_eqb budget 0 e, le-ltb 65536 budget g, lt-leb ((budget + 1) * (budget + 1)) (nat_abs n) l)

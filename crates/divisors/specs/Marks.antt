@@ -1,6 +1,6 @@
 -- A listing as a bit set: bit j % 64 of word j / 64 is set exactly if j + 1 is a divisor up to the root. What `integer_factors` hands back.
-use Rattle.std.specs.Prelude.{Bool, true, false, List, [], ◌∷◌, ℕ, zero, suc, ◌+◌, ◌*◌, ◌/◌, ◌%◌, ◌^◌, leb, ltb, eqb, ℤ, nat_abs, get_or, replicate}
-use Rattle.ratio.specs.declared.Outcome.TheVariants.{Done, Refused}
+use Rattle.ratio.specs.Refusal.{no_refusal}
+use Rattle.std.specs.Prelude.{Bool, true, false, List, [], ◌∷◌, ℕ, zero, suc, ◌+◌, ◌*◌, ◌/◌, ◌%◌, ◌^◌, leb, ltb, eqb, ℤ, nat_abs, get_or, replicate, Ok, Err}
 use Rattle.ratio.specs.declared.Reason.{Reason}
 use Rattle.ratio.specs.declared.Reason.TheVariants.{BadInput, Budget}
 use Rattle.divisors.specs.declared.Listing.{Listing}
@@ -28,7 +28,7 @@ bit_at marks j = eqb (get_or marks (j / 64) 0 / 2 ^ (j % 64) % 2) 1
 
 -- no entry: the number 1 with no divisor marked
 unfoldable pub refused_by : Reason → Listing
-refused_by why = record { outcome = Refused why; size = 1; marks = replicate 1024 0 }
+refused_by why = record { outcome = Err why; size = 1; marks = replicate 1024 0 }
 
 abbrev pub unless : Bool → Reason → Listing → Listing
 unless true why l = refused_by why
@@ -41,4 +41,4 @@ listing_of n budget =
     (unless (eqb budget 0) BadInput
     (unless (ltb 65536 budget) BadInput
     (unless (leb ((budget + 1) * (budget + 1)) (nat_abs n)) Budget
-    (record { outcome = Done; size = nat_abs n; marks = marks_of (nat_abs n) }))))
+    (record { outcome = no_refusal; size = nat_abs n; marks = marks_of (nat_abs n) }))))

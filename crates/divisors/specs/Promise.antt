@@ -1,7 +1,7 @@
 -- Demand 2 for a listing: it is refused exactly where document 01 says, and an answered one holds each divisor of n, with each sign, once, and nothing else.
+use Rattle.ratio.specs.Refusal.{status_of}
 use Rattle.std.specs.Prelude.{◌≡◌, Bool, true, false, List, [], ◌∷◌, ℕ, suc, ◌+◌, ◌*◌, ◌<◌, ◌≤◌, eqb, ℤ, pos, negsuc, nat_abs, ◌*ℤ◌}
 use Rattle.ratio.specs.Range.{Within}
-use Rattle.ratio.specs.Refusal.{outcome_status}
 use Rattle.divisors.specs.declared.Found.{Found}
 use Rattle.divisors.specs.declared.Found.TheVariants.{At, End}
 use Rattle.divisors.specs.declared.Listing.{Listing}
@@ -44,13 +44,13 @@ abbrev pub listed : Listing → List ℤ
 listed l = rest l.size l.marks 0
 
 pub record Lists (n : ℤ) (budget : ℕ) (l : Listing) : Type 0 where
-  pub bad : (Allowed n budget → ⊥) → outcome_status l.outcome ≡ 5
-  pub over : Allowed n budget → (r : ℕ) → Root (nat_abs n) r → budget < r → outcome_status l.outcome ≡ 6
-  pub answered : Allowed n budget → (r : ℕ) → Root (nat_abs n) r → r ≤ budget → outcome_status l.outcome ≡ 0
-  pub order : outcome_status l.outcome ≡ 0 → listed l ≡ factors_of (nat_abs n)
-  pub divisors : outcome_status l.outcome ≡ 0 → (n ≡ pos 0 → ⊥) → (z : ℤ) → DivisorOf n z → count_of z (listed l) ≡ 1
-  pub others : outcome_status l.outcome ≡ 0 → (n ≡ pos 0 → ⊥) → (z : ℤ) → (DivisorOf n z → ⊥) → count_of z (listed l) ≡ 0
-  pub refused : (outcome_status l.outcome ≡ 0 → ⊥) → listed l ≡ []
+  pub bad : (Allowed n budget → ⊥) → status_of l.outcome ≡ 5
+  pub over : Allowed n budget → (r : ℕ) → Root (nat_abs n) r → budget < r → status_of l.outcome ≡ 6
+  pub answered : Allowed n budget → (r : ℕ) → Root (nat_abs n) r → r ≤ budget → status_of l.outcome ≡ 0
+  pub order : status_of l.outcome ≡ 0 → listed l ≡ factors_of (nat_abs n)
+  pub divisors : status_of l.outcome ≡ 0 → (n ≡ pos 0 → ⊥) → (z : ℤ) → DivisorOf n z → count_of z (listed l) ≡ 1
+  pub others : status_of l.outcome ≡ 0 → (n ≡ pos 0 → ⊥) → (z : ℤ) → (DivisorOf n z → ⊥) → count_of z (listed l) ≡ 0
+  pub refused : (status_of l.outcome ≡ 0 → ⊥) → listed l ≡ []
 
 -- the entry found is the first of what is left, and the walk goes on behind it
 pub record Walks (size : ℕ) (marks : List ℕ) (at : ℕ) (f : Found) : Type 0 where

@@ -9,11 +9,11 @@ ghost use Rattle.divisors.specs.Marks.{digit, word_from, marks_of, bit_at, refus
 ghost use Rattle.divisors.specs.Promise.{Lists, Walks};
 ghost use Rattle.divisors.specs.Walk.{mark_from, Clear, ClearIn, entry_of, first_of, here_of, next_of};
 
-use ratio::{Outcome, Reason};
+use ratio::Reason;
 
 #[derive(Clone, Copy)]
 pub struct Listing {
-    pub outcome: Outcome,
+    pub outcome: Result<(), Reason>,
     pub size: u64,
     pub marks: [u64; 1024],
 }
@@ -76,7 +76,7 @@ fn refused(why: Reason) -> Listing
     ensures { result ≡ refused_by why }
 {
     Listing {
-        outcome: Outcome::Refused(why),
+        outcome: Err(why),
         size: 1,
         marks: [0u64; 1024],
     }
@@ -97,7 +97,7 @@ pub fn integer_factors(n: i64, budget: u64) -> Listing
         refused(Reason::Budget)
     } else {
         Listing {
-            outcome: Outcome::Done,
+            outcome: Ok(()),
             size,
             marks: mark_all(size),
         }

@@ -1,4 +1,5 @@
 -- The promise of the discriminant, said of its model: zero exactly if there is a divisor in common with the derivative, at most the price; answer and number of steps are those of the written chain.
+use Rattle.ratio.specs.Refusal.{status_of}
 use mathlib.Core.Path.{◌≡◌, refl, sym, subst}
 use mathlib.Core.Logic.{◌↔◌}
 use mathlib.Core.List.{List, [], ◌∷◌}
@@ -10,7 +11,6 @@ use Rattle.algebra.specs.Polynomial.{derivative}
 use Rattle.algebra.specs.Textbook.{HasDegree}
 use Rattle.algebra.proofs.Rational.{0ℚ}
 use Rattle.ratio.specs.Range.{limit}
-use Rattle.ratio.specs.Refusal.{outcome_status}
 use Rattle.ratio.specs.declared.Ratio.{Ratio}
 use Rattle.ratio.specs.declared.Reason.{Reason}
 use Rattle.ratio.proofs.Steps.{value}
@@ -81,7 +81,7 @@ module _ (f : Poly) where
         let l : length F ≡ suc n = degree-length F n o.canonical d in
         in-degrees (λ x y. discriminant_price x) _ (length F) (length F) n n l l (discriminant-price F 0 (omega arith))
 
-    discriminant-chain : Written-down whole-only F [] (λ w. w ∷ []) (discriminant_run f) (steps_of run) (outcome_status (whole_of run).outcome) (whole_r (whole_of run).value ∷ [])
+    discriminant-chain : Written-down whole-only F [] (λ w. w ∷ []) (discriminant_run f) (steps_of run) (status_of (whole_of run).outcome) (whole_r (whole_of run).value ∷ [])
     discriminant-chain =
         let few : length F ≤ limit = omega (arith, o.few) in
         written-down whole-only F [] value_of (λ w. w ∷ []) (λ x. x ∷ []) (λ w. refl) (discriminant_run f) run _ _ (discriminant-tells F (fractions F o.canonical) few)

@@ -1,11 +1,11 @@
 -- The promise of division, said of its model: the textbook's quotient and rest, canonical, exactly the steps of document 01; answer and number of steps are those of the written chain.
+use Rattle.ratio.specs.Refusal.{status_of}
 use mathlib.Core.Path.{◌≡◌, refl, sym, ap, subst}
 use mathlib.Core.List.{List, [], ◌∷◌, ◌++◌, map-append}
 use Prim.Native.Nat.{ℕ, suc, ◌+◌, ◌-◌, ◌*◌, ◌≤◌}
 use native.Mathlib.Omega.{arith}
 use lib.ListN.{length}
 use Rattle.algebra.specs.Textbook.{HasDegree, IsDivision}
-use Rattle.ratio.specs.Refusal.{outcome_status}
 use Rattle.ratio.specs.declared.Ratio.{Ratio}
 use Rattle.ratio.specs.declared.Reason.{Reason}
 use Rattle.ratio.specs.declared.Reason.TheVariants.{CoeffOverflow, DivByZero}
@@ -44,7 +44,7 @@ division_steps (over k) = refl
 abbrev numbers : Split Ratio → List Ratio
 numbers s = s.quotient ++ s.rest
 
-division-back : (r : Ran ℕ (Split Ratio)) → Back every numbers r (outcome_status (division_of r).outcome) (terms_of (division_of r).quotient ++ terms_of (division_of r).rest)
+division-back : (r : Ran ℕ (Split Ratio)) → Back every numbers r (status_of (division_of r).outcome) (terms_of (division_of r).quotient ++ terms_of (division_of r).rest)
 division-back (fine k s) = fine_back every numbers k s 0 _ (λ u. rw (terms-of-poly s.quotient, terms-of-poly s.rest)) (λ a. refl)
 division-back (over k) = over-back every numbers k _
 
@@ -80,7 +80,7 @@ module _ (a b : Poly) where
     division-means : (k : ℕ) (s : Split Ratio) → run ≡ fine k s → Divided A B s
     division-means k s e = divided-means A B oa.canonical ob.canonical (λ z. absurd (omega (arith, ap length z))) 0 k s e
 
-    division-handed : (r : Ran ℕ (Split Ratio)) → run ≡ r → outcome_status (division_of r).outcome ≡ 0 → IsDivision (reading a) (reading b) (reading (division_of r).quotient) (reading (division_of r).rest)
+    division-handed : (r : Ran ℕ (Split Ratio)) → run ≡ r → status_of (division_of r).outcome ≡ 0 → IsDivision (reading a) (reading b) (reading (division_of r).quotient) (reading (division_of r).rest)
     division-handed (fine k s) e u = rw (terms-of-poly s.quotient, terms-of-poly s.rest) (division-means k s e).is
     division-handed (over k) e u = absurd (never_done CoeffOverflow u)
 
@@ -99,14 +99,14 @@ module _ (a b : Poly) where
       as-long' : length B ≡ suc m
       as-long' = degree-length B m ob.canonical db
 
-      division-takes : m ≤ n → (r : Ran ℕ (Split Ratio)) → run ≡ r → outcome_status (division_of r).outcome ≡ 0 → (division_of r).steps ≡ (n - m + 1) * (2 * m + 3)
+      division-takes : m ≤ n → (r : Ran ℕ (Split Ratio)) → run ≡ r → status_of (division_of r).outcome ≡ 0 → (division_of r).steps ≡ (n - m + 1) * (2 * m + 3)
       division-takes l (fine k s) e u = exact-degrees k (length A) (length B) n m as_long as-long' (division-exact A B some 0 k s (omega (arith, as_long, as-long')) e)
       division-takes l (over k) e u = absurd (never_done CoeffOverflow u)
 
       division-costs : steps_of run ≤ division_price n m
       division-costs = in-degrees division_price _ (length A) (length B) n m as_long as-long' (division-price A B some (omega (arith, as_long)) 0)
 
-    division-chain : Written-down every A B (λ s. s.quotient ++ s.rest) (division_run a b) (steps_of run) (outcome_status (division_of run).outcome) (terms_of (division_of run).quotient ++ terms_of (division_of run).rest)
+    division-chain : Written-down every A B (λ s. s.quotient ++ s.rest) (division_run a b) (steps_of run) (status_of (division_of run).outcome) (terms_of (division_of run).quotient ++ terms_of (division_of run).rest)
     division-chain = written-down every A B split_of (λ s. s.quotient ++ s.rest) numbers (λ s. map-append value_of s.quotient s.rest) (division_run a b) run _ _ (division-tells A B (fractions A oa.canonical) (fractions B ob.canonical)) (division-back run)
 
     division-run : DivisionPromise a b (division_of run)

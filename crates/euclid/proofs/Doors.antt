@@ -1,4 +1,6 @@
 -- What the promises of module 4 share: the door before the work, degree and length of what came through it, and the written chain behind the answer and the number of steps.
+use Rattle.ratio.specs.Refusal.{status_of, no_refusal}
+use Rattle.std.specs.Prelude.{Ok, Err}
 use mathlib.Core.Path.{◌≡◌, refl, sym, ap, ap₂, subst, ◌∙◌}
 use mathlib.Core.List.{List, [], ◌∷◌, map}
 use Prim.Native.Nat.{ℕ, suc, ◌+◌, ◌-◌, ◌≤◌}
@@ -10,8 +12,6 @@ use Rattle.algebra.proofs.Degree.{deg-unique, deg-not-nil}
 use Rattle.algebra.proofs.PolyDomain.{dvd-degree}
 use Rattle.algebra.proofs.Lists.{poly-empty}
 use Rattle.algebra.proofs.ListWords.{zero-to, zero-from, degree-to, divides-to}
-use Rattle.ratio.specs.Refusal.{outcome_status}
-use Rattle.ratio.specs.declared.Outcome.TheVariants as O
 use Rattle.ratio.specs.declared.Ratio.{Ratio}
 use Rattle.ratio.specs.declared.Reason.{Reason}
 use Rattle.ratio.specs.declared.Reason.TheVariants.{CoeffOverflow, TooLong, BadInput}
@@ -38,9 +38,9 @@ use Rattle.euclid.specs.Promise.{Entered, Faithfully, every, Written-down}
 
 -- ---- a refusal
 
-pub never_done : (why : Reason) → outcome_status (O.Refused why) ≡ 0 → ⊥
+pub never_done : (why : Reason) → status_of {X = Unit {0}} (Err why) ≡ 0 → ⊥
 never_done why e =
-    let d : O.Refused why ≡ O.Done = outcome-done (O.Refused why) e in
+    let d : Err why ≡ no_refusal = outcome-done (Err why) e in
     let z : ◌≡◌ {A = ℕ} 0 1 = cc in
     omega arith
 
@@ -106,7 +106,7 @@ answer-canonical k l c = answer-terms k l ∙ c.trimmed
 
 -- the answered list has P, and what is handed back, a refusal too, is canonical
 pub record Handed (P : List Ratio → Type 0) (r : Answer) : Type 0 where
-  pub is : outcome_status r.outcome ≡ 0 → P (terms_of r.poly)
+  pub is : status_of r.outcome ≡ 0 → P (terms_of r.poly)
   pub canonical : door_of r.poly ≡ Open
 
 pub record Fits (P : List Ratio → Type 0) (l : List Ratio) : Type 0 where
@@ -151,7 +151,7 @@ module _ {Y : Type 0} (allowed : List Ratio → Type 0) (numbers : Y → List Ra
     stopped = λ k' e. refl;
   }
 
-pub answer_back : (r : Ran ℕ (List Ratio)) → ((k : ℕ) (l : List Ratio) → r ≡ fine k l → Canonical l) → Back every (λ l. l) r (outcome_status (answer_of r).outcome) (terms_of (answer_of r).poly)
+pub answer_back : (r : Ran ℕ (List Ratio)) → ((k : ℕ) (l : List Ratio) → r ≡ fine k l → Canonical l) → Back every (λ l. l) r (status_of (answer_of r).outcome) (terms_of (answer_of r).poly)
 answer_back (fine k l) c = fine_back every (λ l. l) k l 0 _ (λ s. sym (answer-canonical k l (c k l refl))) (λ a. refl)
 answer_back (over k) c = over-back every (λ l. l) k _
 

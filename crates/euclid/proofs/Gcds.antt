@@ -1,11 +1,11 @@
 -- The promise of the gcd, said of its model: the textbook's gcd, canonical, at most the price; answer and number of steps are those of the written chain.
+use Rattle.ratio.specs.Refusal.{status_of}
 use mathlib.Core.Path.{◌≡◌, refl, sym, subst, ◌∙◌}
 use mathlib.Core.List.{List, [], ◌∷◌}
 use Prim.Native.Nat.{ℕ, suc, ◌+◌, ◌≤◌}
 use native.Mathlib.Omega.{arith}
 use lib.ListN.{length}
 use Rattle.algebra.specs.Textbook.{HasDegree, IsZero, IsGcd}
-use Rattle.ratio.specs.Refusal.{outcome_status}
 use Rattle.ratio.specs.declared.Ratio.{Ratio}
 use Rattle.ratio.specs.declared.Reason.{Reason}
 use Rattle.terms.specs.declared.Answer.{Answer}
@@ -93,7 +93,7 @@ module _ (a b : Poly) where
     scaled-right : (n : ℕ) → IsZero (reading a) → HasDegree (reading b) n → steps_of run ≤ n + 1
     scaled-right n z d = rw (zero-nil A oa.canonical z) (omega (arith, gcd-price-left-zero B 0, degree-length B n ob.canonical d))
 
-    gcd-chain : Written-down every A B (λ l. l) (gcd_run a b) (steps_of run) (outcome_status (answer_of run).outcome) (terms_of (answer_of run).poly)
+    gcd-chain : Written-down every A B (λ l. l) (gcd_run a b) (steps_of run) (status_of (answer_of run).outcome) (terms_of (answer_of run).poly)
     gcd-chain =
         written-down every A B values_of (λ l. l) (λ l. l) (λ l. refl) (gcd_run a b) run _ _ (gcd-tells A B (fractions A oa.canonical) (fractions B ob.canonical))
         (answer_back run (λ k g e. (gcd-short 0 k g A B oa.canonical ob.canonical oa.few ob.few e).0))

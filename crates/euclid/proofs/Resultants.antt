@@ -1,4 +1,5 @@
 -- The promise of the resultant, said of its model: zero exactly if there is a common divisor of degree at least 1, at most the price; answer and number of steps are those of the written chain.
+use Rattle.ratio.specs.Refusal.{status_of}
 use mathlib.Core.Path.{◌≡◌, refl, sym, ap, subst}
 use mathlib.Core.Logic.{◌↔◌}
 use mathlib.Core.Bool.{Bool, true, false}
@@ -14,7 +15,6 @@ use Rattle.algebra.specs.Rational.{Rat}
 use Rattle.algebra.specs.Textbook.{HasDegree, IsZero}
 use Rattle.algebra.proofs.Rational.{0ℚ, over-nil}
 use Rattle.ratio.specs.Promise.{Lowest}
-use Rattle.ratio.specs.Refusal.{outcome_status}
 use Rattle.ratio.specs.Step.{is_nil}
 use Rattle.ratio.specs.declared.Ratio.{Ratio}
 use Rattle.ratio.specs.declared.Reason.{Reason}
@@ -58,8 +58,8 @@ whole-steps (over k) = refl
 
 -- a whole number that is answered is zero exactly if the fraction is
 pub record Vanishes (P : Type 0) (w : Whole) : Type 0 where
-  pub so : outcome_status w.outcome ≡ 0 → w.value ≡ pos 0 → P
-  pub only : outcome_status w.outcome ≡ 0 → P → w.value ≡ pos 0
+  pub so : status_of w.outcome ≡ 0 → w.value ≡ pos 0 → P
+  pub only : status_of w.outcome ≡ 0 → P → w.value ≡ pos 0
 
 vanishes-if : (P : Type 0) (r : Ratio) → Lowest r → value r ≡ 0ℚ ↔ P → (t : Bool) (k : ℕ) → Vanishes P (whole_if t r.num k)
 vanishes-if P r l h true k = record { so = λ s e. h.0 ((zero-num r l).1 e); only = λ s p. (zero-num r l).0 (h.1 p) }
@@ -77,12 +77,12 @@ one-above (negsuc n) h e = absurd h.lt
 whole-num : (r : Ratio) → Lowest r → nat_abs r.den ≡ 1 → r ≡ whole_r r.num
 whole-num r l e = ap (λ d. record { num = r.num; den = d }) (one-above r.den l.above e)
 
-back-if : (r : Ratio) → Lowest r → (k : ℕ) (t : Bool) → eqb (nat_abs r.den) 1 ≡ t → Back whole-only (λ x. x ∷ []) (fine k r) (outcome_status (whole_if t r.num k).outcome) (whole_r (whole_if t r.num k).value ∷ [])
+back-if : (r : Ratio) → Lowest r → (k : ℕ) (t : Bool) → eqb (nat_abs r.den) 1 ≡ t → Back whole-only (λ x. x ∷ []) (fine k r) (status_of (whole_if t r.num k).outcome) (whole_r (whole_if t r.num k).value ∷ [])
 back-if r l k true e = fine_back whole-only (λ x. x ∷ []) k r 0 _ (λ s. ap (λ x. x ∷ []) (whole-num r l (eqb-true (nat_abs r.den) 1 e))) (λ a. refl)
 back-if r l k false e = fine_back whole-only (λ x. x ∷ []) k r 2 _ (λ s. absurd (never_done CoeffOverflow s)) (λ a. absurd (eqb-false (nat_abs r.den) 1 e (a 0 (omega arith))))
 
 -- the number handed back is the fraction that the work ends in
-pub whole_back : (r : Ran ℕ Ratio) → ((k : ℕ) (x : Ratio) → r ≡ fine k x → Lowest x) → Back whole-only (λ x. x ∷ []) r (outcome_status (whole_of r).outcome) (whole_r (whole_of r).value ∷ [])
+pub whole_back : (r : Ran ℕ Ratio) → ((k : ℕ) (x : Ratio) → r ≡ fine k x → Lowest x) → Back whole-only (λ x. x ∷ []) r (status_of (whole_of r).outcome) (whole_r (whole_of r).value ∷ [])
 whole_back (fine k x) l = back-if x (l k x refl) k (eqb (nat_abs x.den) 1) refl
 whole_back (over k) l = over-back whole-only (λ x. x ∷ []) k _
 
@@ -147,7 +147,7 @@ module _ (a b : Poly) where
         let lb : length B ≡ suc m = degree-length B m ob.canonical d' in
         in-degrees resultant_price _ (length A) (length B) n m la lb (resultant-price A B 0 (omega arith) (omega arith))
 
-    resultant-chain : Written-down whole-only A B (λ w. w ∷ []) (resultant_run a b) (steps_of run) (outcome_status (whole_of run).outcome) (whole_r (whole_of run).value ∷ [])
+    resultant-chain : Written-down whole-only A B (λ w. w ∷ []) (resultant_run a b) (steps_of run) (status_of (whole_of run).outcome) (whole_r (whole_of run).value ∷ [])
     resultant-chain =
         written-down whole-only A B value_of (λ w. w ∷ []) (λ x. x ∷ []) (λ w. refl) (resultant_run a b) run _ _ (resultant-tells A B (fractions A oa.canonical) (fractions B ob.canonical))
         (whole_back run (λ k x. resultant-lowest A B 0 k x))

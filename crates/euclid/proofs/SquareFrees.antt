@@ -1,4 +1,5 @@
 -- The promise of the square-free part, said of its model: it divides and keeps the roots, is canonical, takes at most the price; answer and number of steps are those of the written chain.
+use Rattle.ratio.specs.Refusal.{status_of}
 use mathlib.Core.Path.{◌≡◌, refl, sym, subst}
 use mathlib.Core.List.{List, [], ◌∷◌}
 use Prim.Native.Nat.{ℕ, suc, ◌≤◌}
@@ -6,7 +7,6 @@ use native.Mathlib.Omega.{arith}
 use lib.ListN.{length}
 use Rattle.algebra.specs.Textbook.{HasDegree, IsZero}
 use Rattle.ratio.specs.Range.{limit}
-use Rattle.ratio.specs.Refusal.{outcome_status}
 use Rattle.ratio.specs.declared.Ratio.{Ratio}
 use Rattle.ratio.specs.declared.Reason.{Reason}
 use Rattle.terms.specs.declared.Answer.{Answer}
@@ -68,7 +68,7 @@ module _ (f : Poly) where
         let l : length F ≡ suc n = degree-length F n o.canonical d in
         in-degrees (λ x y. square_free_price x) _ (length F) (length F) n n l l (square_free-price F 0 (omega arith))
 
-    part-chain : Written-down every F [] (λ l. l) (square_free_run f) (steps_of run) (outcome_status (answer_of run).outcome) (terms_of (answer_of run).poly)
+    part-chain : Written-down every F [] (λ l. l) (square_free_run f) (steps_of run) (status_of (answer_of run).outcome) (terms_of (answer_of run).poly)
     part-chain =
         let few : length F ≤ limit = omega (arith, o.few) in
         written-down every F [] values_of (λ l. l) (λ l. l) (λ l. refl) (square_free_run f) run _ _ (square_free-tells F (fractions F o.canonical) few)

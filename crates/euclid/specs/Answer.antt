@@ -1,7 +1,6 @@
 -- Document 01, module 4 and "order": what division, gcd, square-free part, resultant and discriminant answer: the door first (5, then 4), a zero divisor is 3, then the work. The steps are reported with every answer.
-use Rattle.std.specs.Prelude.{Bool, true, false, ℕ, eqb, ℤ, pos, nat_abs}
-use Rattle.ratio.specs.declared.Outcome.{Outcome}
-use Rattle.ratio.specs.declared.Outcome.TheVariants as O
+use Rattle.std.specs.Prelude.{Bool, true, false, ℕ, eqb, ℤ, pos, nat_abs, Ok, Err}
+use Rattle.ratio.specs.Refusal.{Outcome, no_refusal}
 use Rattle.ratio.specs.declared.Ratio.{Ratio}
 use Rattle.ratio.specs.declared.Reason.{Reason}
 use Rattle.ratio.specs.declared.Reason.TheVariants.{CoeffOverflow}
@@ -33,16 +32,16 @@ square_free_for f = enter (door_of f) (answer_of (square_free plain (terms_of f)
 
 -- a whole number that was worked out, or why there is none
 abbrev pub no_whole : Reason → ℕ → Whole
-no_whole why k = record { outcome = O.Refused why; value = pos 0; steps = k }
+no_whole why k = record { outcome = Err why; value = pos 0; steps = k }
 
 abbrev pub whole_if : Bool → ℤ → ℕ → Whole
-whole_if true n k = record { outcome = O.Done; value = n; steps = k }
+whole_if true n k = record { outcome = no_refusal; value = n; steps = k }
 whole_if false n k = no_whole CoeffOverflow k
 
 -- a number that was worked out and is no whole number is 2, and the whole chain counts
 abbrev pub whole_from_if : Outcome → Ratio → ℕ → Whole
-whole_from_if O.Done r k = whole_if (eqb (nat_abs r.den) 1) r.num k
-whole_from_if (O.Refused why) r k = no_whole why k
+whole_from_if (Ok _) r k = whole_if (eqb (nat_abs r.den) 1) r.num k
+whole_from_if (Err why) r k = no_whole why k
 
 abbrev pub whole_from : Number → Whole
 whole_from n = whole_from_if n.outcome n.value n.steps

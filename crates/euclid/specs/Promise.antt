@@ -3,7 +3,7 @@ use Rattle.std.specs.Prelude.{◌≡◌, List, [], ◌∷◌, ◌++◌, map, ℕ
 use Rattle.algebra.specs.Rational.{Rat}
 use Rattle.algebra.specs.Polynomial.{derivative}
 use Rattle.algebra.specs.Textbook.{HasDegree, IsZero, Divides, IsDivision, IsGcd, IsRoot}
-use Rattle.ratio.specs.Refusal.{outcome_status, zero_r}
+use Rattle.ratio.specs.Refusal.{zero_r, status_of}
 use Rattle.ratio.specs.declared.Ratio.{Ratio}
 use Rattle.ratio.specs.declared.Reason.{Reason}
 use Rattle.terms.specs.declared.Poly.{Poly}
@@ -59,11 +59,11 @@ abbrev pub division_run : Poly → Poly → Ran (List Written) (Split Wire)
 division_run a b = divided writer (wires first 0 (terms_of a)) (wires second 0 (terms_of b)) []
 
 pub record DivisionPromise (a b : Poly) (r : Division) : Type 0 where
-  pub is : outcome_status r.outcome ≡ 0 → IsDivision (reading a) (reading b) (reading r.quotient) (reading r.rest)
+  pub is : status_of r.outcome ≡ 0 → IsDivision (reading a) (reading b) (reading r.quotient) (reading r.rest)
   pub canonical : (door_of r.quotient ≡ Open) × (door_of r.rest ≡ Open)
-  pub exact : (n m : ℕ) → HasDegree (reading a) n → HasDegree (reading b) m → m ≤ n → outcome_status r.outcome ≡ 0 → r.steps ≡ (n - m + 1) * (2 * m + 3)
+  pub exact : (n m : ℕ) → HasDegree (reading a) n → HasDegree (reading b) m → m ≤ n → status_of r.outcome ≡ 0 → r.steps ≡ (n - m + 1) * (2 * m + 3)
   pub price : (n m : ℕ) → HasDegree (reading a) n → HasDegree (reading b) m → r.steps ≤ division_price n m
-  pub chain : Entered a b → (IsZero (reading b) → ⊥) → Written-down every (terms_of a) (terms_of b) (λ s. s.quotient ++ s.rest) (division_run a b) r.steps (outcome_status r.outcome) (terms_of r.quotient ++ terms_of r.rest)
+  pub chain : Entered a b → (IsZero (reading b) → ⊥) → Written-down every (terms_of a) (terms_of b) (λ s. s.quotient ++ s.rest) (division_run a b) r.steps (status_of r.outcome) (terms_of r.quotient ++ terms_of r.rest)
 
 -- ---- gcd
 
@@ -71,14 +71,14 @@ abbrev pub gcd_run : Poly → Poly → Ran (List Written) (List Wire)
 gcd_run a b = gcd_of writer (wires first 0 (terms_of a)) (wires second 0 (terms_of b)) []
 
 pub record GcdPromise (a b : Poly) (r : Answer) : Type 0 where
-  pub is : (IsZero (reading a) → IsZero (reading b) → ⊥) → outcome_status r.outcome ≡ 0 → IsGcd (reading a) (reading b) (reading r.poly)
-  pub of-zeros : IsZero (reading a) → IsZero (reading b) → outcome_status r.outcome ≡ 0 → IsZero (reading r.poly) × (r.steps ≡ 0)
+  pub is : (IsZero (reading a) → IsZero (reading b) → ⊥) → status_of r.outcome ≡ 0 → IsGcd (reading a) (reading b) (reading r.poly)
+  pub of-zeros : IsZero (reading a) → IsZero (reading b) → status_of r.outcome ≡ 0 → IsZero (reading r.poly) × (r.steps ≡ 0)
   pub canonical : door_of r.poly ≡ Open
   pub price : (n m : ℕ) → HasDegree (reading a) n → HasDegree (reading b) m → r.steps ≤ gcd_price n m
   -- the gcd with zero: the other input is only scaled
   pub with-zero : (n : ℕ) → IsZero (reading b) → HasDegree (reading a) n → r.steps ≤ n + 1
   pub zero-with : (n : ℕ) → IsZero (reading a) → HasDegree (reading b) n → r.steps ≤ n + 1
-  pub chain : Entered a b → Written-down every (terms_of a) (terms_of b) (λ l. l) (gcd_run a b) r.steps (outcome_status r.outcome) (terms_of r.poly)
+  pub chain : Entered a b → Written-down every (terms_of a) (terms_of b) (λ l. l) (gcd_run a b) r.steps (status_of r.outcome) (terms_of r.poly)
 
 -- ---- the square-free part
 
@@ -86,12 +86,12 @@ abbrev pub square_free_run : Poly → Ran (List Written) (List Wire)
 square_free_run f = square_free writer (wires first 0 (terms_of f)) []
 
 pub record SquareFreePromise (f : Poly) (r : Answer) : Type 0 where
-  pub divides : (IsZero (reading f) → ⊥) → outcome_status r.outcome ≡ 0 → Divides (reading r.poly) (reading f)
-  pub roots_kept : (IsZero (reading f) → ⊥) → outcome_status r.outcome ≡ 0 → (x : Rat) → IsRoot (reading f) x → IsRoot (reading r.poly) x
-  pub roots-only : (IsZero (reading f) → ⊥) → outcome_status r.outcome ≡ 0 → (x : Rat) → IsRoot (reading r.poly) x → IsRoot (reading f) x
+  pub divides : (IsZero (reading f) → ⊥) → status_of r.outcome ≡ 0 → Divides (reading r.poly) (reading f)
+  pub roots_kept : (IsZero (reading f) → ⊥) → status_of r.outcome ≡ 0 → (x : Rat) → IsRoot (reading f) x → IsRoot (reading r.poly) x
+  pub roots-only : (IsZero (reading f) → ⊥) → status_of r.outcome ≡ 0 → (x : Rat) → IsRoot (reading r.poly) x → IsRoot (reading f) x
   pub canonical : door_of r.poly ≡ Open
   pub price : (n : ℕ) → HasDegree (reading f) n → r.steps ≤ square_free_price n
-  pub chain : door_of f ≡ Open → Written-down every (terms_of f) [] (λ l. l) (square_free_run f) r.steps (outcome_status r.outcome) (terms_of r.poly)
+  pub chain : door_of f ≡ Open → Written-down every (terms_of f) [] (λ l. l) (square_free_run f) r.steps (status_of r.outcome) (terms_of r.poly)
 
 -- ---- resultant and discriminant
 
@@ -105,7 +105,7 @@ pub record CommonFactor (a b : List Rat) : Type 0 where
 
 -- r is answered: the number is v, after k steps
 pub record Answers (r : Whole) (v : ℤ) (k : ℕ) : Type 0 where
-  pub done : outcome_status r.outcome ≡ 0
+  pub done : status_of r.outcome ≡ 0
   pub number : r.value ≡ v
   pub count : r.steps ≡ k
 
@@ -114,26 +114,26 @@ resultant_run a b = resultant_of writer (wires first 0 (terms_of a)) (wires seco
 
 -- an answered resultant of two nonzero polynomials is zero exactly when they have a common divisor of degree at least 1
 pub record ResultantPromise (a b : Poly) (r : Whole) : Type 0 where
-  pub vanishes : (IsZero (reading a) → ⊥) → (IsZero (reading b) → ⊥) → outcome_status r.outcome ≡ 0 → r.value ≡ pos 0 → CommonFactor (reading a) (reading b)
-  pub only_then : (IsZero (reading a) → ⊥) → (IsZero (reading b) → ⊥) → outcome_status r.outcome ≡ 0 → CommonFactor (reading a) (reading b) → r.value ≡ pos 0
+  pub vanishes : (IsZero (reading a) → ⊥) → (IsZero (reading b) → ⊥) → status_of r.outcome ≡ 0 → r.value ≡ pos 0 → CommonFactor (reading a) (reading b)
+  pub only_then : (IsZero (reading a) → ⊥) → (IsZero (reading b) → ⊥) → status_of r.outcome ≡ 0 → CommonFactor (reading a) (reading b) → r.value ≡ pos 0
   pub price : (n m : ℕ) → HasDegree (reading a) n → HasDegree (reading b) m → r.steps ≤ resultant_price n m
   -- the resultant with zero is 0, at no step
   pub of-zero-left : Entered a b → IsZero (reading a) → Answers r (pos 0) 0
   pub of-zero-right : Entered a b → IsZero (reading b) → Answers r (pos 0) 0
-  pub chain : Entered a b → Written-down whole-only (terms_of a) (terms_of b) (λ w. w ∷ []) (resultant_run a b) r.steps (outcome_status r.outcome) (whole_r r.value ∷ [])
+  pub chain : Entered a b → Written-down whole-only (terms_of a) (terms_of b) (λ w. w ∷ []) (resultant_run a b) r.steps (status_of r.outcome) (whole_r r.value ∷ [])
 
 abbrev pub discriminant_run : Poly → Ran (List Written) Wire
 discriminant_run f = discriminant_of writer (wires first 0 (terms_of f)) []
 
 -- an answered discriminant of a polynomial of degree at least 1 is zero exactly when it has a divisor in common with its derivative
 pub record DiscriminantPromise (f : Poly) (r : Whole) : Type 0 where
-  pub vanishes : (n : ℕ) → HasDegree (reading f) (suc n) → outcome_status r.outcome ≡ 0 → r.value ≡ pos 0 → CommonFactor (reading f) (derivative (reading f))
-  pub only_then : (n : ℕ) → HasDegree (reading f) (suc n) → outcome_status r.outcome ≡ 0 → CommonFactor (reading f) (derivative (reading f)) → r.value ≡ pos 0
+  pub vanishes : (n : ℕ) → HasDegree (reading f) (suc n) → status_of r.outcome ≡ 0 → r.value ≡ pos 0 → CommonFactor (reading f) (derivative (reading f))
+  pub only_then : (n : ℕ) → HasDegree (reading f) (suc n) → status_of r.outcome ≡ 0 → CommonFactor (reading f) (derivative (reading f)) → r.value ≡ pos 0
   pub price : (n : ℕ) → HasDegree (reading f) n → r.steps ≤ discriminant_price n
   -- the discriminant of zero is 0 and that of a constant 1, at no step
   pub of_zero : door_of f ≡ Open → IsZero (reading f) → Answers r (pos 0) 0
   pub of-constant : door_of f ≡ Open → HasDegree (reading f) 0 → Answers r (pos 1) 0
-  pub chain : door_of f ≡ Open → Written-down whole-only (terms_of f) [] (λ w. w ∷ []) (discriminant_run f) r.steps (outcome_status r.outcome) (whole_r r.value ∷ [])
+  pub chain : door_of f ≡ Open → Written-down whole-only (terms_of f) [] (λ w. w ∷ []) (discriminant_run f) r.steps (status_of r.outcome) (whole_r r.value ∷ [])
 
 -- ---- prices quoted from the degrees alone
 

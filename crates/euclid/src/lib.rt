@@ -9,14 +9,14 @@ ghost use Rattle.euclid.specs.Quote.{division_quote, gcd_quote, square_free_quot
 ghost use Rattle.euclid.specs.Promise.{DivisionPromise, GcdPromise, SquareFreePromise, ResultantPromise, DiscriminantPromise, Quotes, QuotesOne};
 
 use poly::Gate;
-use ratio::{Outcome, Reason};
+use ratio::Reason;
 use remainders::{Division, Number};
 use terms::{Answer, Poly};
 
 // A whole number that was worked out.
 #[derive(Clone, Copy)]
 pub struct Whole {
-    pub outcome: Outcome,
+    pub outcome: Result<(), Reason>,
     pub value: i64,
     pub steps: u64,
 }
@@ -71,7 +71,7 @@ fn no_whole(why: Reason, steps: u64) -> Whole
     ensures { result ≡ no_whole why steps }
 {
     Whole {
-        outcome: Outcome::Refused(why),
+        outcome: Err(why),
         value: 0,
         steps,
     }
@@ -84,11 +84,11 @@ fn as_whole(n: Number) -> Whole
     let o = n.outcome;
     let v = n.value;
     match o {
-        Outcome::Refused(why) => no_whole(why, n.steps),
-        Outcome::Done => {
+        Err(why) => no_whole(why, n.steps),
+        Ok(()) => {
             if ratio::magnitude(v.den) == 1 {
                 Whole {
-                    outcome: Outcome::Done,
+                    outcome: Ok(()),
                     value: v.num,
                     steps: n.steps,
                 }

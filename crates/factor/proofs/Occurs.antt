@@ -1,4 +1,5 @@
 -- Every factor that is handed back occurs at least once.
+use Rattle.std.specs.Prelude.{Ok, Err}
 use mathlib.Core.Bool.{Bool, true, false, cond}
 use mathlib.Core.List.{List, [], ◌∷◌, ◌++◌}
 use mathlib.Core.Path.{◌≡◌, subst}
@@ -7,8 +8,7 @@ use native.Mathlib.Omega.{arith}
 use lib.Dec.{ltb, eqb}
 use lib.ListN.{length}
 use Rattle.ratio.specs.Step.{neg_of}
-use Rattle.ratio.specs.declared.Outcome.{Outcome}
-use Rattle.ratio.specs.declared.Outcome.TheVariants as O
+use Rattle.ratio.specs.Refusal.{Outcome}
 use Rattle.ratio.specs.declared.Ratio.{Ratio}
 use Rattle.terms.specs.Poly.{terms_of, trim}
 use Rattle.search.specs.Answer.{roots_of}
@@ -42,8 +42,8 @@ if-holds true r s h l = h
 if-holds false r s h l = l
 
 roots-holds : (o : Outcome) (r : Found) → Holds Occurs r → Holds Occurs (on_roots o r)
-roots-holds O.Done r h = h
-roots-holds (O.Refused why) r h = tt
+roots-holds (Ok _) r h = h
+roots-holds (Err why) r h = tt
 
 halves-holds : (x : Halves) (r : Found) (k : List Ratio → List Ratio → Found) → Holds Occurs r → ((g q : List Ratio) → Holds Occurs (k g q)) → Holds Occurs (on_halves x r k)
 halves-holds whole r k h f = h

@@ -1,4 +1,5 @@
 -- Laws of the product of the factors: a loop over the multiplicity, and one over the factors.
+use Rattle.std.specs.Prelude.{Ok, Err}
 use mathlib.Core.Path.{◌≡◌, refl, sym, ap, ◌∙◌}
 use mathlib.Core.Bool.{Bool, true, false}
 use mathlib.Core.List.{List, [], ◌∷◌}
@@ -8,8 +9,7 @@ use native.Mathlib.Omega.{arith}
 use lib.Dec.{ltb}
 use lib.ListN.{length, drop, get_or, drop_of_length-le}
 use lib.Seq.{drop-cons}
-use Rattle.ratio.specs.declared.Outcome.{Outcome}
-use Rattle.ratio.specs.declared.Outcome.TheVariants as O
+use Rattle.ratio.specs.Refusal.{Outcome, no_refusal}
 use Rattle.ratio.specs.declared.Ratio.{Ratio}
 use Rattle.ratio.specs.declared.Reason.{Reason}
 use Rattle.terms.specs.declared.Answer.{Answer}
@@ -45,14 +45,14 @@ pub product-padded : (a b : List Ratio) → (r : Answer) → r ≡ product_of a 
 product-padded a b r e = record { is = rw e (product-made a b) }
 
 -- an answer of the model
-pub from-got : (a : Answer) (g : Got (List Ratio)) → a ≡ answer_from g → a.outcome ≡ O.Done → g ≡ got (terms_of a.poly)
+pub from-got : (a : Answer) (g : Got (List Ratio)) → a ≡ answer_from g → a.outcome ≡ no_refusal → g ≡ got (terms_of a.poly)
 from-got a (got l) e o = ap got (sym (terms-of-poly l) ∙ sym (ap (λ (t : Answer). terms_of t.poly) e))
 from-got a (none why) e o = done_refused a.outcome why o (ap (λ (t : Answer). t.outcome) e)
 
-pub from-none : (a : Answer) (g : Got (List Ratio)) (why : Reason) → a ≡ answer_from g → a.outcome ≡ O.Refused why → g ≡ none why
+pub from-none : (a : Answer) (g : Got (List Ratio)) (why : Reason) → a ≡ answer_from g → a.outcome ≡ Err why → g ≡ none why
 from-none a (got l) why e o = done_refused a.outcome why (ap (λ (t : Answer). t.outcome) e) o
 from-none a (none w) why e o =
-    let q : O.Refused w ≡ O.Refused why = sym (ap (λ (t : Answer). t.outcome) e) ∙ o in
+    let q : Err w ≡ Err why = sym (ap (λ (t : Answer). t.outcome) e) ∙ o in
     cc
 
 pub from-padded : (a : Answer) (g : Got (List Ratio)) → a ≡ answer_from g → Padded a.poly
@@ -70,14 +70,14 @@ module _ (times : ℕ) (q start : List Ratio) where
   raising-none now e p = let s : times - 0 ≡ times = omega arith in record { whole = rw (s, e); padded = p }
 
   module _ (i : ℕ) (now : Poly) (h : i < times) (r : Raising i now) (a : Answer) (e : a ≡ product_of (terms_of now) q) where
-    pub raising-more : a.outcome ≡ O.Done → Raising (i + 1) a.poly
+    pub raising-more : a.outcome ≡ no_refusal → Raising (i + 1) a.poly
     unfolding raised
     raising-more o =
         let k : times - i ≡ suc (times - suc i) = omega arith in
         let g : got_of (product_of (terms_of now) q) ≡ got (terms_of a.poly) = ap got_of (sym e) ∙ answer-got a o in
         record { whole = rw (add-one i) (rw (k, g) at r.whole); padded = product-padded (terms_of now) q a e }
 
-    pub raising-over : (why : Reason) → a.outcome ≡ O.Refused why → refused_from why ≡ answer_from (raised times q start)
+    pub raising-over : (why : Reason) → a.outcome ≡ Err why → refused_from why ≡ answer_from (raised times q start)
     unfolding raised
     raising-over why o =
         let k : times - i ≡ suc (times - suc i) = omega arith in
@@ -104,13 +104,13 @@ module _ (all : List Piece) (start : List Ratio) where
     same : a ≡ answer_from (raised (get_or all i z).times (terms_of (get_or all i z).poly) (terms_of now))
     same = e ∙ ap (λ (t : Piece). answer_from (raised t.times (terms_of t.poly) (terms_of now))) g
 
-    pub building-more : a.outcome ≡ O.Done → Building (i + 1) a.poly
+    pub building-more : a.outcome ≡ no_refusal → Building (i + 1) a.poly
     unfolding rebuilt
     building-more o =
         let n = from-got a (raised (get_or all i z).times (terms_of (get_or all i z).poly) (terms_of now)) same o in
         record { whole = rw (add-one i) (rw (drop-cons all i z h, n) at b.whole); padded = from-padded a (raised (get_or all i z).times (terms_of (get_or all i z).poly) (terms_of now)) same }
 
-    pub building-over : (why : Reason) → a.outcome ≡ O.Refused why → refused_from why ≡ answer_from (rebuilt all start)
+    pub building-over : (why : Reason) → a.outcome ≡ Err why → refused_from why ≡ answer_from (rebuilt all start)
     unfolding rebuilt
     building-over why o =
         let n = from-none a (raised (get_or all i z).times (terms_of (get_or all i z).poly) (terms_of now)) why same o in
@@ -124,8 +124,8 @@ module _ (all : List Piece) (start : List Ratio) where
 
 -- ---- at the door
 
-pub rebuild-refused : (p : Poly) (budget : ℕ) (r : Factorization) (why : Reason) → r ≡ factor_for p budget → r.outcome ≡ O.Refused why → refused_from why ≡ rebuild_for p budget
+pub rebuild-refused : (p : Poly) (budget : ℕ) (r : Factorization) (why : Reason) → r ≡ factor_for p budget → r.outcome ≡ Err why → refused_from why ≡ rebuild_for p budget
 rebuild-refused p budget r why e o = ap (λ (t : Outcome). rebuilt_if t r) (sym o) ∙ ap (λ (t : Factorization). rebuilt_if t.outcome t) e
 
-pub rebuild-done : (p : Poly) (budget : ℕ) (r : Factorization) → r ≡ factor_for p budget → r.outcome ≡ O.Done → rebuilt_if O.Done r ≡ rebuild_for p budget
+pub rebuild-done : (p : Poly) (budget : ℕ) (r : Factorization) → r ≡ factor_for p budget → r.outcome ≡ no_refusal → rebuilt_if no_refusal r ≡ rebuild_for p budget
 rebuild-done p budget r e o = ap (λ (t : Outcome). rebuilt_if t r) (sym o) ∙ ap (λ (t : Factorization). rebuilt_if t.outcome t) e

@@ -1,4 +1,5 @@
 -- The promise of the factors: the powers of what was found multiply to the polynomial over its leading coefficient.
+use Rattle.std.specs.Prelude.{Result, Ok, Err}
 use mathlib.Core.Path.{◌≡◌, refl, sym, ap, ap₂, subst, ◌∙◌}
 use mathlib.Core.List.{List, [], ◌∷◌}
 use Prim.Native.Nat.{ℕ, suc, ◌≤◌}
@@ -16,14 +17,10 @@ use Rattle.algebra.proofs.PolyDomain.{deg-scaled, P-cancel}
 use Rattle.algebra.proofs.Lists.{ℚP, ◌*P◌, poly-at, poly-equal, equal-poly, poly-scaled, poly-empty}
 use Rattle.algebra.proofs.ListWords.{degree-to, degree-from, zero-to, zero-from}
 use Rattle.ratio.specs.Promise.{Lowest}
-use Rattle.ratio.specs.Refusal.{number_of, ratio_of, outcome_status}
-use Rattle.ratio.specs.declared.Outcome.{Outcome}
-use Rattle.ratio.specs.declared.Outcome.TheVariants as O
+use Rattle.ratio.specs.Refusal.{number_of, ratio_of, Outcome, status_of, no_refusal}
 use Rattle.ratio.specs.declared.Ratio.{Ratio}
 use Rattle.ratio.specs.declared.Reason.{Reason}
 use Rattle.ratio.specs.declared.Reason.TheVariants.{BadInput}
-use Rattle.ratio.specs.declared.Step.{Step}
-use Rattle.ratio.specs.declared.Step.TheVariants as S
 use Rattle.terms.specs.declared.Poly.{Poly}
 use Rattle.terms.specs.Meaning.{rats}
 use Rattle.terms.specs.Poly.{terms_of}
@@ -68,9 +65,9 @@ pub then-got : {X Y : Type 0} (g : Got X) (k : X → Got Y) (y : Y) → then_got
 then-got (got x) k y e = record { value = x; first = refl; then = e }
 then-got (none why) k y e = absurd (let z : ◌≡◌ {A = ℕ} 0 1 = cc in omega arith)
 
-pub got-answer : (o : Outcome) (l m : List Ratio) → got_in o l ≡ got m → (o ≡ O.Done) × (l ≡ m)
-got-answer O.Done l m e = (refl, cc)
-got-answer (O.Refused why) l m e = absurd (let z : ◌≡◌ {A = ℕ} 0 1 = cc in omega arith)
+pub got-answer : (o : Outcome) (l m : List Ratio) → got_in o l ≡ got m → (o ≡ no_refusal) × (l ≡ m)
+got-answer (Ok _) l m e = (refl, cc)
+got-answer (Err why) l m e = absurd (let z : ◌≡◌ {A = ℕ} 0 1 = cc in omega arith)
 
 no-status : (why : Reason) → number_of why ≡ 0 → ⊥
 no-status why e = omega (arith, number-some why)
@@ -102,12 +99,12 @@ module _ (p : Poly) (budget : ℕ) (o : Opened p) (l : List Piece) (e : split_pa
   part : PrimitivePromise p (primitive_of p)
   part = primitive-promise p
 
-  answered : ((primitive_of p).outcome ≡ O.Done) × (terms_of (primitive_of p).poly ≡ q)
+  answered : ((primitive_of p).outcome ≡ no_refusal) × (terms_of (primitive_of p).poly ≡ q)
   unfolding q
   answered = got-answer (primitive_of p).outcome (terms_of (primitive_of p).poly) q first.first
 
-  status : outcome_status (primitive_of p).outcome ≡ 0
-  status = ap outcome_status answered.0
+  status : status_of (primitive_of p).outcome ≡ 0
+  status = ap status_of answered.0
 
   q-open : Opened (primitive_of p).poly
   q-open = opened (primitive_of p).poly part.canonical
@@ -234,7 +231,7 @@ refused-promise p why = record {
 }
 
 module _ (p : Poly) (budget : ℕ) (o : Opened p) where
-  list-promise : (c : Ratio) → content_for p ≡ S.Done c → (g : Got (List Piece)) → split_parts p budget ≡ g → FactorPromise p (factors_with c (decomposition_of g).outcome (decomposition_of g))
+  list-promise : (c : Ratio) → content_for p ≡ Ok c → (g : Got (List Piece)) → split_parts p budget ≡ g → FactorPromise p (factors_with c (decomposition_of g).outcome (decomposition_of g))
   list-promise c f (got l) e = record {
     factors = λ s n. subst (Factors (reading p)) (sym (found-pieces l)) (factors-meant p budget o l e n);
     of_zero = λ s z. ap length (zero-list p budget o l e z);
@@ -243,9 +240,9 @@ module _ (p : Poly) (budget : ℕ) (o : Opened p) where
   }
   list-promise c f (none why) e = refused-promise p why
 
-  work-promise : (s : Step) → content_for p ≡ s → FactorPromise p (with_content s (factors_of p budget))
-  work-promise (S.Done c) f = list-promise c f (split_parts p budget) refl
-  work-promise (S.Refused why) f = refused-promise p BadInput
+  work-promise : (s : Result Ratio Reason) → content_for p ≡ s → FactorPromise p (with_content s (factors_of p budget))
+  work-promise (Ok c) f = list-promise c f (split_parts p budget) refl
+  work-promise (Err why) f = refused-promise p BadInput
 
 pub factor-promise : (p : Poly) (budget : ℕ) → FactorPromise p (factor_for p budget)
 factor-promise p budget =
@@ -257,11 +254,11 @@ pub factor-both : (p : Poly) (budget : ℕ) (r : Factorization) → r ≡ factor
 factor-both p budget r e = (e, subst (FactorPromise p) (sym e) (factor-promise p budget))
 
 -- an answered one has a content in lowest terms
-open-content : (p : Poly) (s : Step) → content_for p ≡ s → (r : Factorization) → outcome_status r.outcome ≡ 0 → r.content ≡ ratio_of (content_for p) → door_of p ≡ Open → Lowest r.content
+open-content : (p : Poly) (s : Result Ratio Reason) → content_for p ≡ s → (r : Factorization) → status_of r.outcome ≡ 0 → r.content ≡ ratio_of (content_for p) → door_of p ≡ Open → Lowest r.content
 open-content p s f r h e d = subst Lowest (sym e) ((content-promise p).lowest ((content-promise p).answered d))
 
-pub content-is-lowest : (p : Poly) (budget : ℕ) → outcome_status (factor_for p budget).outcome ≡ 0 → Lowest (factor_for p budget).content
-content-is-lowest p budget = entered-keeps no_factors (λ r. outcome_status r.outcome ≡ 0 → Lowest r.content) (both (door_of p) (budget_door budget)) (work_of p budget)
+pub content-is-lowest : (p : Poly) (budget : ℕ) → status_of (factor_for p budget).outcome ≡ 0 → Lowest (factor_for p budget).content
+content-is-lowest p budget = entered-keeps no_factors (λ r. status_of r.outcome ≡ 0 → Lowest r.content) (both (door_of p) (budget_door budget)) (work_of p budget)
     (λ e h.
     let d = (both-open (door_of p) (budget_door budget) e).0 in
     open-content p (content_for p) refl (work_of p budget) h ((work-promise p budget (opened p d) (content_for p) refl).content h) d)

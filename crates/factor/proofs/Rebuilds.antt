@@ -1,4 +1,5 @@
 -- The promise of rebuilding: an answered one is the content times the powers of the factors.
+use Rattle.std.specs.Prelude.{Ok, Err}
 use mathlib.Core.Path.{◌≡◌, refl, sym, ap, ap₂, subst, ◌∙◌}
 use mathlib.Core.List.{List, [], ◌∷◌}
 use Prim.Native.Nat.{ℕ, zero, suc, ◌≤◌}
@@ -11,9 +12,7 @@ use Rattle.algebra.proofs.Rational.{ℚ-ring}
 use Rattle.algebra.proofs.Poly.{Poly-ring}
 use Rattle.algebra.proofs.Lists.{ℚP, ◌*P◌, poly-equal, equal-poly, poly-product, poly-scaled, poly-constant}
 use Rattle.ratio.specs.Promise.{rat, Lowest}
-use Rattle.ratio.specs.Refusal.{outcome_status}
-use Rattle.ratio.specs.declared.Outcome.{Outcome}
-use Rattle.ratio.specs.declared.Outcome.TheVariants as O
+use Rattle.ratio.specs.Refusal.{Outcome, status_of}
 use Rattle.ratio.specs.declared.Ratio.{Ratio}
 use Rattle.terms.specs.declared.Answer.{Answer}
 use Rattle.terms.specs.declared.Poly.{Poly}
@@ -50,7 +49,7 @@ times-made acc q l e =
     let g = product-gives acc q in
     let o = opened (product_of acc q).poly g.canonical in
     record {
-      is = ap poly_r (sym a.1) ∙ equal-poly _ (product (rats acc) (rats q)) (g.is (ap outcome_status a.0)) ∙ poly-product (rats acc) (rats q);
+      is = ap poly_r (sym a.1) ∙ equal-poly _ (product (rats acc) (rats q)) (g.is (ap status_of a.0)) ∙ poly-product (rats acc) (rats q);
       canonical = subst Canonical a.1 o.canonical;
       short = subst (λ t. length t ≤ 32) a.1 o.few;
     }
@@ -121,8 +120,8 @@ module _ (c : Ratio) (low : Lowest c) (all : List Piece) where
 
 module _ (p : Poly) (budget : ℕ) where
   outcome-gives : (o : Outcome) → (factor_for p budget).outcome ≡ o → Gives (rebuilt_as p budget) (rebuilt_if o (factor_for p budget))
-  outcome-gives O.Done e = from_gives (factor_for p budget).content (content-is-lowest p budget (ap outcome_status e)) (factors_in (factor_for p budget)) (rebuilt (factors_in (factor_for p budget)) (trim ((factor_for p budget).content ∷ []))) refl
-  outcome-gives (O.Refused why) e = refused-gives (rebuilt_as p budget) why 0
+  outcome-gives (Ok _) e = from_gives (factor_for p budget).content (content-is-lowest p budget (ap status_of e)) (factors_in (factor_for p budget)) (rebuilt (factors_in (factor_for p budget)) (trim ((factor_for p budget).content ∷ []))) refl
+  outcome-gives (Err why) e = refused-gives (rebuilt_as p budget) why 0
 
   pub rebuild-both : (r : Answer) → r ≡ rebuild_for p budget → (r ≡ rebuild_for p budget) × Gives (rebuilt_as p budget) r
   rebuild-both r e = (e, subst (Gives (rebuilt_as p budget)) (sym e) (outcome-gives (factor_for p budget).outcome refl))

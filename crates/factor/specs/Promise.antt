@@ -4,7 +4,7 @@ use Rattle.algebra.specs.Rational.{Rat}
 use Rattle.algebra.specs.Polynomial.{coeff, Equal, scaled}
 use Rattle.algebra.specs.Textbook.{HasDegree, IsZero}
 use Rattle.ratio.specs.Promise.{rat}
-use Rattle.ratio.specs.Refusal.{zero_r, ratio_of, outcome_status}
+use Rattle.ratio.specs.Refusal.{zero_r, ratio_of, status_of}
 use Rattle.terms.specs.declared.Poly.{Poly}
 use Rattle.poly.specs.declared.Gate.TheVariants.{Open}
 use Rattle.poly.specs.Door.{door_of}
@@ -32,16 +32,16 @@ pub record Factors (f : List Rat) (l : List Piece) : Type 0 where
   pub add-up : (n : ℕ) → HasDegree f n → degrees l ≡ n
 
 pub record FactorPromise (p : Poly) (r : Factorization) : Type 0 where
-  pub factors : outcome_status r.outcome ≡ 0 → (IsZero (reading p) → ⊥) → Factors (reading p) (factors_in r)
-  pub of_zero : outcome_status r.outcome ≡ 0 → IsZero (reading p) → r.len ≡ 0
-  pub content : outcome_status r.outcome ≡ 0 → r.content ≡ ratio_of (content_for p)
-  pub refused : (outcome_status r.outcome ≡ 0 → ⊥) → (r.len ≡ 0) × (r.content ≡ zero_r)
+  pub factors : status_of r.outcome ≡ 0 → (IsZero (reading p) → ⊥) → Factors (reading p) (factors_in r)
+  pub of_zero : status_of r.outcome ≡ 0 → IsZero (reading p) → r.len ≡ 0
+  pub content : status_of r.outcome ≡ 0 → r.content ≡ ratio_of (content_for p)
+  pub refused : (status_of r.outcome ≡ 0 → ⊥) → (r.len ≡ 0) × (r.content ≡ zero_r)
 
 -- the square-free decomposition
 pub record DecompositionPromise (f : Poly) (r : Decomposition) : Type 0 where
-  pub decomposes : outcome_status r.outcome ≡ 0 → (IsZero (reading f) → ⊥) → Decomposes (reading f) (pieces_of r)
-  pub of_zero : outcome_status r.outcome ≡ 0 → IsZero (reading f) → r.len ≡ 0
-  pub refused : (outcome_status r.outcome ≡ 0 → ⊥) → r.len ≡ 0
+  pub decomposes : status_of r.outcome ≡ 0 → (IsZero (reading f) → ⊥) → Decomposes (reading f) (pieces_of r)
+  pub of_zero : status_of r.outcome ≡ 0 → IsZero (reading f) → r.len ≡ 0
+  pub refused : (status_of r.outcome ≡ 0 → ⊥) → r.len ≡ 0
 
 -- what rebuilding stands for: the content times the powers of the factors
 abbrev pub rebuilt_as : Poly → ℕ → List Rat

@@ -1,7 +1,6 @@
 -- Document 01, the job `rebuild`: the content times the factors in list order, one multiplication at a time, each as often as its multiplicity.
-use Rattle.std.specs.Prelude.{List, [], ◌∷◌, ℕ, zero, suc, take}
-use Rattle.ratio.specs.declared.Outcome.{Outcome}
-use Rattle.ratio.specs.declared.Outcome.TheVariants as O
+use Rattle.std.specs.Prelude.{List, [], ◌∷◌, ℕ, zero, suc, take, Ok, Err}
+use Rattle.ratio.specs.Refusal.{Outcome}
 use Rattle.ratio.specs.declared.Ratio.{Ratio}
 use Rattle.ratio.specs.declared.Reason.{Reason}
 use Rattle.terms.specs.declared.Answer.{Answer}
@@ -34,8 +33,8 @@ abbrev pub factors_in : Factorization → List Piece
 factors_in r = take r.len r.pieces
 
 abbrev pub rebuilt_if : Outcome → Factorization → Answer
-rebuilt_if O.Done r = answer_from (rebuilt (factors_in r) (trim (r.content ∷ [])))
-rebuilt_if (O.Refused why) r = refused_from why
+rebuilt_if (Ok _) r = answer_from (rebuilt (factors_in r) (trim (r.content ∷ [])))
+rebuilt_if (Err why) r = refused_from why
 
 abbrev pub rebuild_for : Poly → ℕ → Answer
 rebuild_for p budget = rebuilt_if (factor_for p budget).outcome (factor_for p budget)

@@ -11,14 +11,14 @@ ghost use Rattle.factor.specs.Promise.{FactorPromise, DecompositionPromise, rebu
 ghost use Rattle.factor.specs.Rebuild.{answer_from, refused_from, raised, factors_in, rebuilt, rebuild_for};
 
 use poly::Gate;
-use ratio::{Outcome, Ratio, Reason, Step};
+use ratio::{Ratio, Reason};
 use terms::{Answer, Poly};
 use yun::{Decomposition, Piece};
 
 // The content, and the factors with their multiplicities; or why there are none.
 #[derive(Clone, Copy)]
 pub struct Factorization {
-    pub outcome: Outcome,
+    pub outcome: Result<(), Reason>,
     pub content: Ratio,
     pub pieces: [Piece; 32],
     pub len: usize,
@@ -37,47 +37,47 @@ pub fn square_free_decomposition(f: Poly) -> Decomposition
 }
 
 // The content, where the door is open; else why there are no factors.
-fn content_behind(d: Gate, p: Poly) -> Step
+fn content_behind(d: Gate, p: Poly) -> Result<Ratio, Reason>
     ensures { result ≡ content_behind d p }
 {
     if let Gate::Open = d {
-        let Step::Done(c) = roots::content(p) else {
-            return Step::Refused(Reason::BadInput);
+        let Ok(c) = roots::content(p) else {
+            return Err(Reason::BadInput);
         };
-        return Step::Done(c);
+        return Ok(c);
     }
-    Step::Refused(poly::reason(d))
+    Err(poly::reason(d))
 }
 
 // The primitive part's decomposition, each factor split, where there is a content.
-fn split_primitive(c: Step, p: Poly, budget: u64) -> Decomposition
+fn split_primitive(c: Result<Ratio, Reason>, p: Poly, budget: u64) -> Decomposition
     ensures { result ≡ factors_behind c p budget }
 {
-    if let Step::Refused(why) = c {
+    if let Err(why) = c {
         return yun::refused(why);
     }
     let a = roots::primitive_part(p);
     let o = a.outcome;
-    if let Outcome::Refused(why) = o {
+    if let Err(why) = o {
         return yun::refused(why);
     }
     let q = a.poly;
     let d = yun::decompose(q);
     let od = d.outcome;
-    if let Outcome::Refused(_) = od {
+    if let Err(_) = od {
         return d;
     }
     splitting::split_all(d, budget)
 }
 
 // The content that goes with the factors: 0 where there are none.
-fn content_with(o: Outcome, c: Step) -> Ratio
+fn content_with(o: Result<(), Reason>, c: Result<Ratio, Reason>) -> Ratio
     ensures { result ≡ content_with o c }
 {
-    if let Outcome::Refused(_) = o {
+    if let Err(_) = o {
         return Ratio { num: 0, den: 1 };
     }
-    let Step::Done(r) = c else {
+    let Ok(r) = c else {
         return Ratio { num: 0, den: 1 };
     };
     r
@@ -120,7 +120,7 @@ fn raise(acc: Poly, q: Poly, times: u64) -> Answer
     while i < times {
         let a = now.times(q);
         let o = a.outcome;
-        if let Outcome::Refused(why) = o {
+        if let Err(why) = o {
             return refused(why);
         }
         now = a.poly;
@@ -148,7 +148,7 @@ fn multiply(r: Factorization) -> Answer
         let q = piece.poly;
         let a = raise(now, q, piece.times);
         let o = a.outcome;
-        if let Outcome::Refused(why) = o {
+        if let Err(why) = o {
             return refused(why);
         }
         now = a.poly;
@@ -175,7 +175,7 @@ pub fn rebuild(p: Poly, budget: u64) -> Answer
     let r = factor(p, budget);
     let o = r.outcome;
     match o {
-        Outcome::Refused(why) => refused(why),
-        Outcome::Done => multiply(r),
+        Err(why) => refused(why),
+        Ok(()) => multiply(r),
     }
 }

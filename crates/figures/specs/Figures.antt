@@ -1,6 +1,6 @@
 -- Document 01's figures marked P and that of an isolation that goes too deep, as one table about the definitions. proofs/Proved.antt proves it.
-use Rattle.std.specs.Prelude.{◌≡◌, [], ◌∷◌, ℕ, ℤ, pos, negsuc, true, List, ◌++◌, replicate, Float}
-use Rattle.ratio.specs.Refusal.{status_of, outcome_status}
+use Rattle.std.specs.Prelude.{◌≡◌, [], ◌∷◌, ℕ, ℤ, pos, negsuc, true, List, ◌++◌, replicate, Float, Ok}
+use Rattle.ratio.specs.Refusal.{status_of, no_refusal}
 use Rattle.ratio.specs.Step.{add_of}
 use Rattle.ratio.specs.declared.Ratio.{Ratio}
 use Rattle.terms.specs.declared.Poly.{Poly}
@@ -11,7 +11,6 @@ use Rattle.euclid.specs.Answer.{div_rem_of, gcd_for, resultant_for, discriminant
 use Rattle.euclid.specs.Quote.{gcd_quote, resultant_quote}
 use Rattle.euclid.specs.declared.Price.TheVariants.{Steps}
 use Rattle.euclid.specs.declared.Whole.{Whole}
-use Rattle.ratio.specs.declared.Outcome.TheVariants as O
 use Rattle.terms.specs.Machine.{fine}
 use Rattle.search.specs.declared.Roots.{Roots}
 use Rattle.search.specs.Answer.{answered}
@@ -59,7 +58,7 @@ roots l tried steps = answered (fine (record { tried = tried; steps = steps }) l
 
 -- this content and one factor, once
 abbrev pub once_with : Ratio → List Ratio → Factorization
-once_with c l = record { outcome = O.Done; content = c; pieces = (piece l 1 ∷ []) ++ replicate 31 no_piece; len = 1 }
+once_with c l = record { outcome = no_refusal; content = c; pieces = (piece l 1 ∷ []) ++ replicate 31 no_piece; len = 1 }
 
 -- the float nearest to 1e-6
 abbrev pub millionth : Float
@@ -80,7 +79,7 @@ pub record Figures : Type 0 where
   -- 1/3037000500 + 1/3037000500 is refused with 2
   pub sum-too-large : status_of (add_of (ratio (pos 1) (pos 3037000500)) (ratio (pos 1) (pos 3037000500))) ≡ 2
   -- 0 divided by 0 gives 3; gcd(0, 0) is 0
-  pub zero_by_zero : outcome_status (div_rem_of zero zero).outcome ≡ 3
+  pub zero_by_zero : status_of (div_rem_of zero zero).outcome ≡ 3
   pub gcd-of-zeros : gcd_for zero zero ≡ done_with zero 0
   -- the roots of 2x^3 - 3x^2 - 3x + 2 are -1, 1/2, 2; of x^3 - x: -1, 0, 1
   pub roots-cubic : rational_roots_of (cubic (pos 2) (negsuc 2) (negsuc 2) (pos 2)) 65536 ≡ roots (whole_r (negsuc 0) ∷ ratio (pos 1) (pos 2) ∷ whole_r (pos 2) ∷ []) 16 192

@@ -2,13 +2,13 @@
 #![tactic(auto)]
 
 use divisors::Found;
-use ratio::{Outcome, Ratio, Step};
+use ratio::{Ratio, Reason};
 use std::io;
 
-fn status(o: Outcome) -> u64 {
+fn status(o: Result<(), Reason>) -> u64 {
     match o {
-        Outcome::Done => 0,
-        Outcome::Refused(why) => ratio::number(why),
+        Ok(()) => 0,
+        Err(why) => ratio::number(why),
     }
 }
 
@@ -46,11 +46,11 @@ fn value_of_x(rt: &impl Print, at: i64) -> io::Result<()> {
     let x = poly::from_parts(&nums, &dens);
     print!(rt; "x at {at}: status ")?;
     match poly::eval(x.poly, Ratio { num: at, den: 1 }) {
-        Step::Done(v) => {
+        Ok(v) => {
             let num = v.num;
             println!(rt; "0, {num}")
         }
-        Step::Refused(why) => {
+        Err(why) => {
             let number = ratio::number(why);
             println!(rt; "{number}")
         }

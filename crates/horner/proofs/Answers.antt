@@ -1,4 +1,5 @@
 -- What `to_lowered` answers, leaves on the page and promises: behind open doors with and without room, and behind shut ones.
+use Rattle.ratio.specs.Refusal.{status_of}
 use mathlib.Core.Path.{◌≡◌, refl, sym, ap, ap₂, subst, ◌∙◌}
 use mathlib.Core.Bool.{cond}
 use mathlib.Core.List.{List, ◌++◌}
@@ -8,7 +9,6 @@ use borrow.Author.Tests.{leb-true, lt-ltb, le-ltb}
 use lib.Dec.{leb, ltb}
 use lib.ListN.{length, take, drop}
 use lib.Seq.{take-append_seam}
-use Rattle.ratio.specs.Refusal.{outcome_status}
 use Rattle.ratio.specs.declared.Reason.{Reason}
 use Rattle.ratio.specs.declared.Reason.TheVariants.{NoRoom}
 use Rattle.terms.specs.declared.Poly.{Poly}
@@ -27,11 +27,11 @@ use Rattle.horner.proofs.Return.{reads-back}
 
 -- the three clauses of the contract
 abbrev pub Lowered : Poly → ℕ → List ℕ → Written → List ℕ → Type 0
-Lowered p wrt page r now = (r ≡ written_of p wrt page) × ((now ≡ page_of p wrt page) × (outcome_status r.outcome ≡ 0 → ReadsBack p wrt (take r.len now)))
+Lowered p wrt page r now = (r ≡ written_of p wrt page) × ((now ≡ page_of p wrt page) × (status_of r.outcome ≡ 0 → ReadsBack p wrt (take r.len now)))
 
 -- a refusal promises nothing more
-refused-no : {X : Type 0} (r : Written) (why : Reason) → r ≡ refused_for why → outcome_status r.outcome ≡ 0 → X
-refused-no r why f z = absurd (omega (arith, number-some why, ap (λ (w : Written). outcome_status w.outcome) f))
+refused-no : {X : Type 0} (r : Written) (why : Reason) → r ≡ refused_for why → status_of r.outcome ≡ 0 → X
+refused-no r why f z = absurd (omega (arith, number-some why, ap (λ (w : Written). status_of w.outcome) f))
 
 short : {X : Type 0} (a b : ℕ) (x y : X) → a < b → x ≡ cond (ltb a b) x y
 short a b x y h = rw (lt-ltb a b h)

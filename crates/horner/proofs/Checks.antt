@@ -1,4 +1,5 @@
 -- The heights of Horner's form: degree n takes 2 n + 1 values at once.
+use Rattle.std.specs.Prelude.{Ok, Err}
 use mathlib.Core.Path.{◌≡◌, refl, sym, ap, ◌∙◌}
 use mathlib.Core.Bool.{Bool, true, false, cond}
 use mathlib.Core.List.{List, [], ◌∷◌, ◌++◌, append_assoc, append-nil}
@@ -7,8 +8,7 @@ use native.Mathlib.Omega.{arith}
 use borrow.Author.Tests.{lt-ltb, le-ltb, ltb-true, ltb-false}
 use lib.Dec.{ltb}
 use lib.ListN.{length}
-use Rattle.ratio.specs.declared.Outcome.{Outcome}
-use Rattle.ratio.specs.declared.Outcome.TheVariants as O
+use Rattle.ratio.specs.Refusal.{Outcome, no_refusal}
 use Rattle.ratio.specs.declared.Reason.TheVariants as R
 use Rattle.ratio.specs.declared.Ratio.{Ratio}
 use Rattle.bridge.specs.Value.{value_of}
@@ -79,8 +79,8 @@ module _ (wrt : ℕ) (tv : token_of (variable wrt) ≡ T.Var wrt) (tc : (c : Rat
       put end at (v + 2) _ plus ws r T.Add token-plus refl refl (v + 1) (omega arith) (omega arith) (λ at.
       ap (λ f. check_from end at (height (v + 1) f) ws) (flags d v n) ∙ next at))))))
 
-  pub check : (c : Ratio) (l : List Ratio) (end : ℕ) → check_from end 0 bare (horner_words wrt c l) ≡ cond (ltb 8 (suc (length l))) (O.Refused R.TooLong) O.Done
+  pub check : (c : Ratio) (l : List Ratio) (end : ℕ) → check_from end 0 bare (horner_words wrt c l) ≡ cond (ltb 8 (suc (length l))) (Err R.TooLong) no_refusal
   unfolding check_from
   check c l end =
       ap (check_from end 0 bare) (sym (append-nil (horner_words wrt c l)))
-      ∙ heights c l end 0 0 false [] _ (λ at. ap (λ b. cond b (O.Refused R.TooLong) O.Done) (limit (length l)))
+      ∙ heights c l end 0 0 false [] _ (λ at. ap (λ b. cond b (Err R.TooLong) no_refusal) (limit (length l)))

@@ -1,4 +1,6 @@
 -- What is written in Horner form, read again.
+use Rattle.ratio.specs.declared.Reason.{Reason}
+use Rattle.std.specs.Prelude.{Result, Ok, Err}
 use mathlib.Core.Path.{◌≡◌, refl, sym, ap, ◌∙◌}
 use mathlib.Core.Bool.{Bool, true, false, cond}
 use mathlib.Core.List.{List, [], ◌∷◌, append-nil}
@@ -11,12 +13,9 @@ use lib.Ieee.{binary64, unlike, round, of_int}
 use lib.Signed.{lt_z}
 use lib.ListN.{length, take, get_or}
 use lib.Seq.{take-length}
-use Rattle.ratio.specs.Refusal.{zero_r}
-use Rattle.ratio.specs.declared.Outcome.TheVariants as O
+use Rattle.ratio.specs.Refusal.{zero_r, no_refusal}
 use Rattle.ratio.specs.declared.Ratio.{Ratio}
 use Rattle.ratio.specs.declared.Reason.TheVariants.{TooLong}
-use Rattle.ratio.specs.declared.Step.{Step}
-use Rattle.ratio.specs.declared.Step.TheVariants.{Done, Refused}
 use Rattle.ratio.proofs.Words.{pos-neg}
 use Rattle.bridge.specs.Value.{value_of}
 use Rattle.bridge.specs.Search.{to_ratio}
@@ -42,7 +41,7 @@ use Rattle.horner.proofs.Words.{horner-words}
 
 -- ---- the answer in every case
 
-unless : (t : Bool) (r : Answer) → unless_refused (cond t (O.Refused TooLong) O.Done) r ≡ cond t (refused_with TooLong 0) r
+unless : (t : Bool) (r : Answer) → unless_refused (cond t (Err TooLong) no_refusal) r ≡ cond t (refused_with TooLong 0) r
 unless true r = refl
 unless false r = refl
 
@@ -62,10 +61,10 @@ unfolding of_int
 whole_float (pos n) h = over-one (pos n) h ∙ rw (pos-neg n)
 whole_float (negsuc n) h = over-one (negsuc n) h
 
-small-back : (c : Ratio) → Small c → to_ratio (value_of c) ≡ Done c
+small-back : (c : Ratio) → Small c → to_ratio (value_of c) ≡ Ok c
 small-back c (d, h) =
     let e : c ≡ record { num = c.num; den = pos 1 } = ap (λ z. record { num = c.num; den = z }) d in
-    (finds-both (value_of c) _ refl).1.whole c.num h (ap value_of e ∙ whole_float c.num h) ∙ ap Done (sym e)
+    (finds-both (value_of c) _ refl).1.whole c.num h (ap value_of e ∙ whole_float c.num h) ∙ ap Ok (sym e)
 
 zero_same : back_of (zero_r ∷ []) ≡ back_of []
 unfolding back_of through drop_top
@@ -97,19 +96,19 @@ with_all : (c : Ratio) (t : Through) (cs : List Ratio) → with c t ≡ all cs �
 with_all c (all l) cs e = (l, refl, cc)
 with_all c (lost why) cs e = let z : ◌≡◌ {A = ℕ} 0 1 = cc in absurd (omega arith)
 
-first-all : (s : Step) (t : Through) (cs : List Ratio) → first s t ≡ all cs → (c : Ratio) × (ds : List Ratio) × (s ≡ Done c) × (t ≡ all ds) × (cs ≡ c ∷ ds)
-first-all (Done c) t cs e = let (ds, f, g) = with_all c t cs e in (c, ds, refl, f, g)
-first-all (Refused why) t cs e = let z : ◌≡◌ {A = ℕ} 0 1 = cc in absurd (omega arith)
+first-all : (s : Result Ratio Reason) (t : Through) (cs : List Ratio) → first s t ≡ all cs → (c : Ratio) × (ds : List Ratio) × (s ≡ Ok c) × (t ≡ all ds) × (cs ≡ c ∷ ds)
+first-all (Ok c) t cs e = let (ds, f, g) = with_all c t cs e in (c, ds, refl, f, g)
+first-all (Err why) t cs e = let z : ◌≡◌ {A = ℕ} 0 1 = cc in absurd (omega arith)
 
-through-at : (l cs : List Ratio) → through l ≡ all cs → (i : ℕ) → i < length l → to_ratio (value_of (get_or l i zero_r)) ≡ Done (get_or cs i zero_r)
+through-at : (l cs : List Ratio) → through l ≡ all cs → (i : ℕ) → i < length l → to_ratio (value_of (get_or l i zero_r)) ≡ Ok (get_or cs i zero_r)
 unfolding through
 through-at [] cs e i h = absurd (omega arith)
 through-at (c ∷ l) cs e zero h =
     let (d, ds, f, g, k) = first-all (to_ratio (value_of c)) (through l) cs e in
-    f ∙ ap (λ m. Done (get_or m 0 zero_r)) (sym k)
+    f ∙ ap (λ m. Ok (get_or m 0 zero_r)) (sym k)
 through-at (c ∷ l) cs e (suc i) h =
     let (d, ds, f, g, k) = first-all (to_ratio (value_of c)) (through l) cs e in
-    through-at l ds g i (omega arith) ∙ ap (λ m. Done (get_or m (suc i) zero_r)) (sym k)
+    through-at l ds g i (omega arith) ∙ ap (λ m. Ok (get_or m (suc i) zero_r)) (sym k)
 
 sound-length : (n : ℕ) (t : Through) (cs : List Ratio) → Sound n t → t ≡ all cs → length cs ≡ n
 sound-length n (all l) cs (sound e k) f = let g : l ≡ cs = cc in ap length (sym g) ∙ e
@@ -131,11 +130,11 @@ only_through p (all cs) f e =
     let l = terms_of p in
     let g : trim cs ≡ l = sym (terms-of-poly (trim cs)) ∙ ap terms_of (poly-of (poly_of (trim cs)) p 0 0 e) in
     let k : cs ≡ l = kept cs l (sound-length (length l) (through l) cs (through-sound l) (sym f)) g in
-    λ i h. through-at l cs (sym f) i h ∙ ap (λ m. Done (get_or m i zero_r)) k
-only_through p (lost why) f e = let z : O.Refused why ≡ O.Done = ap (λ r. r.outcome) e in let y : ◌≡◌ {A = ℕ} 0 1 = cc in absurd (omega arith)
+    λ i h. through-at l cs (sym f) i h ∙ ap (λ m. Ok (get_or m i zero_r)) k
+only_through p (lost why) f e = let z : Err why ≡ no_refusal = ap (λ r. r.outcome) e in let y : ◌≡◌ {A = ℕ} 0 1 = cc in absurd (omega arith)
 
 only-back : (p : Poly) (t : Bool) → ltb 8 (length (terms_of p)) ≡ t → cond t (refused_with TooLong 0) (B.answered (through (terms_of p))) ≡ done_with p 0 → (length (terms_of p) ≤ 8) × Survive (terms_of p)
-only-back p true f e = let z : O.Refused TooLong ≡ O.Done = ap (λ r. r.outcome) e in let y : ◌≡◌ {A = ℕ} 0 1 = cc in absurd (omega arith)
+only-back p true f e = let z : Err TooLong ≡ no_refusal = ap (λ r. r.outcome) e in let y : ◌≡◌ {A = ℕ} 0 1 = cc in absurd (omega arith)
 only-back p false f e = (ltb-false 8 (length (terms_of p)) f, only_through p (through (terms_of p)) refl e)
 
 module _ (p : Poly) (n : length p.coeffs ≡ 32) (o : Opened p) where

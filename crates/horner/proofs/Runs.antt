@@ -1,4 +1,6 @@
 -- The words of Horner's form run: the polynomial of the coefficients that come through the bridge is put on the stack.
+use Rattle.ratio.specs.declared.Reason.{Reason}
+use Rattle.std.specs.Prelude.{Result, Ok, Err}
 use mathlib.Core.Path.{◌≡◌, refl, sym, ap}
 use mathlib.Core.List.{List, [], ◌∷◌, ◌++◌, append_assoc}
 use Prim.Native.Nat.{ℕ, suc, ◌≤◌}
@@ -8,8 +10,6 @@ use lib.Ieee.{Float}
 use lib.ListN.{length}
 use Rattle.ratio.specs.Promise.{Lowest}
 use Rattle.ratio.specs.declared.Ratio.{Ratio}
-use Rattle.ratio.specs.declared.Step.{Step}
-use Rattle.ratio.specs.declared.Step.TheVariants as S
 use Rattle.ratio.proofs.Answers.{lowest-tells}
 use Rattle.bridge.specs.Value.{value_of}
 use Rattle.bridge.specs.Search.{to_ratio}
@@ -51,8 +51,8 @@ token-plus = refl
 
 -- ---- what comes through is in lowest terms
 
-pub found-lowest : (v : Float) (c : Ratio) → to_ratio v ≡ S.Done c → Lowest c
-found-lowest v c e = (finds-both v (S.Done c) (sym e)).1.lowest refl
+pub found-lowest : (v : Float) (c : Ratio) → to_ratio v ≡ Ok c → Lowest c
+found-lowest v c e = (finds-both v (Ok c) (sym e)).1.lowest refl
 
 pub data Sound (n : ℕ) : Through → Type 0 where
   sound : {l : List Ratio} → length l ≡ n → AllLowest l → Sound n (all l)
@@ -62,9 +62,9 @@ with-sound : (n : ℕ) (c : Ratio) (t : Through) → Lowest c → Sound n t → 
 with-sound n c (all l) h (sound e k) = sound {l = c ∷ l} (ap suc e) (cons-lowest c l h k)
 with-sound n c (lost why) h none = none
 
-first-sound : (n : ℕ) (s : Step) (t : Through) → ((c : Ratio) → s ≡ S.Done c → Lowest c) → Sound n t → Sound (suc n) (first s t)
-first-sound n (S.Done c) t h k = with-sound n c t (h c refl) k
-first-sound n (S.Refused why) t h k = none
+first-sound : (n : ℕ) (s : Result Ratio Reason) (t : Through) → ((c : Ratio) → s ≡ Ok c → Lowest c) → Sound n t → Sound (suc n) (first s t)
+first-sound n (Ok c) t h k = with-sound n c t (h c refl) k
+first-sound n (Err why) t h k = none
 
 pub through-sound : (l : List Ratio) → Sound (length l) (through l)
 unfolding through
@@ -99,19 +99,19 @@ module _ (wrt : ℕ) (ws : List (List ℕ)) where
 
 -- ---- the run
 
-alone : (wrt : ℕ) (ws : List (List ℕ)) (s : Step) (st : List Poly) → ((c : Ratio) → s ≡ S.Done c → Lowest c) → and_then (pushed (constant_by s) st) (run_from wrt ws) ≡ and_then (onto (first s (all [])) st) (run_from wrt ws)
-alone wrt ws (S.Done c) st h = rw (constant-push c (h c refl) st)
-alone wrt ws (S.Refused why) st h = refl
+alone : (wrt : ℕ) (ws : List (List ℕ)) (s : Result Ratio Reason) (st : List Poly) → ((c : Ratio) → s ≡ Ok c → Lowest c) → and_then (pushed (constant_by s) st) (run_from wrt ws) ≡ and_then (onto (first s (all [])) st) (run_from wrt ws)
+alone wrt ws (Ok c) st h = rw (constant-push c (h c refl) st)
+alone wrt ws (Err why) st h = refl
 
 module _ (wrt : ℕ) (tv : token_of (variable wrt) ≡ T.Var wrt) where
-  more : (ws hs : List (List ℕ)) (s : Step) (st : List Poly) (n : ℕ) (t : Through) → n ≤ 31 → Sound n t → ((c : Ratio) → s ≡ S.Done c → Lowest c)
+  more : (ws hs : List (List ℕ)) (s : Result Ratio Reason) (st : List Poly) (n : ℕ) (t : Through) → n ≤ 31 → Sound n t → ((c : Ratio) → s ≡ Ok c → Lowest c)
       → ((st : List Poly) → run_from wrt (hs ++ (times ∷ plus ∷ ws)) st ≡ and_then (onto t st) (run_from wrt (times ∷ plus ∷ ws)))
       → and_then (pushed (constant_by s) st) (run_from wrt (variable wrt ∷ hs ++ (times ∷ plus ∷ ws))) ≡ and_then (onto (first s t) st) (run_from wrt ws)
   unfolding run_from
-  more ws hs (S.Done c) st n t b k h r =
+  more ws hs (Ok c) st n t b k h r =
       rw (constant-push c (h c refl) st, tv, variable-push wrt (poly_of (trim (c ∷ [])) ∷ st), r (poly_of xs ∷ poly_of (trim (c ∷ [])) ∷ st))
       (joined-run wrt ws c (h c refl) n b t k st)
-  more ws hs (S.Refused why) st n t b k h r = refl
+  more ws hs (Err why) st n t b k h r = refl
 
   pub run : ((c : Ratio) → token_of (constant c) ≡ T.Const (value_of c)) → (c : Ratio) (l : List Ratio) (ws : List (List ℕ)) (st : List Poly) → length l ≤ 31
       → run_from wrt (horner_words wrt c l ++ ws) st ≡ and_then (onto (through (c ∷ l)) st) (run_from wrt ws)

@@ -1,4 +1,6 @@
 -- One turn of Horner's form on the stack: x times a polynomial is its list behind a zero, and a constant goes in front.
+use Rattle.ratio.specs.declared.Reason.{Reason}
+use Rattle.std.specs.Prelude.{Result, Ok}
 use mathlib.Core.Path.{◌≡◌, refl, sym, ap, ap₂, ◌∙◌}
 use mathlib.Core.Bool.{Bool, true, false}
 use mathlib.Core.List.{List, [], ◌∷◌, ◌++◌}
@@ -11,8 +13,6 @@ use Rattle.ratio.specs.Promise.{Lowest}
 use Rattle.ratio.specs.Refusal.{zero_r}
 use Rattle.ratio.specs.Step.{is_nil, add_of}
 use Rattle.ratio.specs.declared.Ratio.{Ratio}
-use Rattle.ratio.specs.declared.Step.{Step}
-use Rattle.ratio.specs.declared.Step.TheVariants.{Done}
 use Rattle.ratio.proofs.Steps.{one_r, zero-lowest, value-equal, nil-value, zero-value}
 use Rattle.terms.specs.declared.Poly.{Poly}
 use Rattle.terms.specs.Poly.{terms_of, poly_of, on_top, drop_top, trim}
@@ -91,14 +91,14 @@ abbrev ups : List Ratio → ℕ → ℕ
 ups [] n = n
 ups (b ∷ l) n = ups l (suc n)
 
-each_from : (s : ℕ → Step) (r : List Ratio) (i n : ℕ) → ((j : ℕ) → s (i + j) ≡ Done (get_or r j zero_r)) → each (λ i k. counted k (s i)) (length r) i n ≡ fine (ups r n) r
+each_from : (s : ℕ → Result Ratio Reason) (r : List Ratio) (i n : ℕ) → ((j : ℕ) → s (i + j) ≡ Ok (get_or r j zero_r)) → each (λ i k. counted k (s i)) (length r) i n ≡ fine (ups r n) r
 unfolding each
 each_from s [] i n h = refl
 each_from s (a ∷ r) i n h =
-    let e : s i ≡ Done a = ap s (omega arith) ∙ h 0 in
+    let e : s i ≡ Ok a = ap s (omega arith) ∙ h 0 in
     rw (e, each_from s r (suc i) (suc n) (λ j. ap s (omega arith) ∙ h (suc j)))
 
-each-is : (s : ℕ → Step) (r : List Ratio) → ((j : ℕ) → s j ≡ Done (get_or r j zero_r)) → each (λ i k. counted k (s i)) (length r) 0 0 ≡ fine (ups r 0) r
+each-is : (s : ℕ → Result Ratio Reason) (r : List Ratio) → ((j : ℕ) → s j ≡ Ok (get_or r j zero_r)) → each (λ i k. counted k (s i)) (length r) 0 0 ≡ fine (ups r 0) r
 each-is s r h = each_from s r 0 0 (λ j. ap s (omega arith) ∙ h j)
 
 nil_is : (c : Ratio) → Lowest c → is_nil c.num ≡ true → c ≡ zero_r
@@ -108,13 +108,13 @@ shifted-length : (l : List Ratio) → max 1 (length (shifted l)) ≡ suc (length
 shifted-length [] = refl
 shifted-length (y ∷ l) = omega arith
 
-front : (c : Ratio) (l : List Ratio) → Lowest c → AllLowest l → (j : ℕ) → add_of (get_or (c ∷ []) j zero_r) (get_or (shifted l) j zero_r) ≡ Done (get_or (c ∷ l) j zero_r)
+front : (c : Ratio) (l : List Ratio) → Lowest c → AllLowest l → (j : ℕ) → add_of (get_or (c ∷ []) j zero_r) (get_or (shifted l) j zero_r) ≡ Ok (get_or (c ∷ l) j zero_r)
 front c [] hc h zero = plus-zero c hc
 front c [] hc h (suc j) = zero-plus zero_r zero-lowest
 front c (y ∷ l) hc h zero = plus-zero c hc
 front c (y ∷ l) hc h (suc j) = zero-plus (get_or (y ∷ l) j zero_r) (h j)
 
-behind : (y : Ratio) (l : List Ratio) → AllLowest (y ∷ l) → (j : ℕ) → add_of zero_r (get_or (zero_r ∷ y ∷ l) j zero_r) ≡ Done (get_or (zero_r ∷ y ∷ l) j zero_r)
+behind : (y : Ratio) (l : List Ratio) → AllLowest (y ∷ l) → (j : ℕ) → add_of zero_r (get_or (zero_r ∷ y ∷ l) j zero_r) ≡ Ok (get_or (zero_r ∷ y ∷ l) j zero_r)
 behind y l h zero = zero-plus zero_r zero-lowest
 behind y l h (suc j) = zero-plus (get_or (y ∷ l) j zero_r) (h j)
 

@@ -1,10 +1,8 @@
 -- Document 01, modules 2 and 7: what a polynomial written in Horner form is when it is read again: each coefficient comes through the float bridge.
-use Rattle.std.specs.Prelude.{cond, List, [], ◌∷◌, ltb, length}
+use Rattle.std.specs.Prelude.{cond, List, [], ◌∷◌, ltb, length, Result, Ok, Err}
 use Rattle.ratio.specs.declared.Ratio.{Ratio}
 use Rattle.ratio.specs.declared.Reason.{Reason}
 use Rattle.ratio.specs.declared.Reason.TheVariants.{TooLong}
-use Rattle.ratio.specs.declared.Step.{Step}
-use Rattle.ratio.specs.declared.Step.TheVariants.{Done, Refused}
 use Rattle.bridge.specs.Value.{value_of}
 use Rattle.bridge.specs.Search.{to_ratio}
 use Rattle.terms.specs.declared.Answer.{Answer}
@@ -20,9 +18,9 @@ abbrev pub with : Ratio → Through → Through
 with c (all l) = all (c ∷ l)
 with c (lost why) = lost why
 
-abbrev pub first : Step → Through → Through
-first (Done c) t = with c t
-first (Refused why) t = lost why
+abbrev pub first : Result Ratio Reason → Through → Through
+first (Ok c) t = with c t
+first (Err why) t = lost why
 
 -- one after the other, the lowest first
 unfoldable pub through : List Ratio → Through

@@ -1,9 +1,8 @@
 -- Demand 2 for `to_lowered`: what it writes is the same polynomial when it is read again in the same variable, exactly where each coefficient comes back from its float and the stack suffices.
-use Rattle.std.specs.Prelude.{◌≡◌, List, ℕ, ◌≤◌, ◌<◌, pos, nat_abs, length, get_or}
+use Rattle.std.specs.Prelude.{◌≡◌, List, ℕ, ◌≤◌, ◌<◌, pos, nat_abs, length, get_or, Ok}
 use Rattle.ratio.specs.Refusal.{zero_r}
 use Rattle.ratio.specs.declared.Ratio.{Ratio}
 use Rattle.ratio.specs.declared.Reason.TheVariants.{TooLong}
-use Rattle.ratio.specs.declared.Step.TheVariants.{Done}
 use Rattle.bridge.specs.Value.{value_of}
 use Rattle.bridge.specs.Search.{to_ratio}
 use Rattle.bridge.specs.Promise.{exact}
@@ -15,7 +14,7 @@ use Rattle.horner.specs.Back.{back_of}
 
 -- each coefficient is what the bridge makes of its float
 abbrev pub Survive : List Ratio → Type 0
-Survive l = (i : ℕ) → i < length l → to_ratio (value_of (get_or l i zero_r)) ≡ Done (get_or l i zero_r)
+Survive l = (i : ℕ) → i < length l → to_ratio (value_of (get_or l i zero_r)) ≡ Ok (get_or l i zero_r)
 
 -- a whole number of at most 2^53 in size; each of these survives
 abbrev pub Small : Ratio → Type 0

@@ -1,6 +1,6 @@
 -- Document 01, refusals and their order, for `to_lowered`: 5 for a variable over 255 or a polynomial that isn't canonical, 4 for one that is too long, 8 for a page shorter than the text. A refusal writes nothing.
-use Rattle.std.specs.Prelude.{Bool, cond, List, ◌++◌, ℕ, leb, ltb, length, drop}
-use Rattle.ratio.specs.declared.Outcome.TheVariants as O
+use Rattle.ratio.specs.Refusal.{no_refusal}
+use Rattle.std.specs.Prelude.{Bool, cond, List, ◌++◌, ℕ, leb, ltb, length, drop, Ok, Err}
 use Rattle.ratio.specs.declared.Reason.{Reason}
 use Rattle.ratio.specs.declared.Reason.TheVariants.{NoRoom}
 use Rattle.terms.specs.declared.Poly.{Poly}
@@ -18,10 +18,10 @@ abbrev pub doors : Poly → ℕ → Gate
 doors p wrt = both (open_if (leb wrt 255)) (door_of p)
 
 abbrev pub refused_for : Reason → Written
-refused_for why = record { outcome = O.Refused why; len = 0 }
+refused_for why = record { outcome = Err why; len = 0 }
 
 abbrev pub done_after : ℕ → Written
-done_after n = record { outcome = O.Done; len = n }
+done_after n = record { outcome = no_refusal; len = n }
 
 abbrev pub lacks_room : Poly → ℕ → List ℕ → Bool
 lacks_room p wrt page = ltb (length page) (length (text_of p wrt))

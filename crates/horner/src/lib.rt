@@ -1,8 +1,8 @@
 // Polynomials to expressions (document 01, module 7; `to_lowered` of the original's univariate.rs): Horner form, lowest coefficient outermost, as postfix tokens.
 #![tactic(auto)]
 
+ghost use Rattle.ratio.specs.Refusal.{status_of};
 ghost use Rattle.std.specs.Prelude.{◌≡◌, ◌++◌, ◌≤◌, ◌<◌, leb, length, take, drop};
-ghost use Rattle.ratio.specs.Refusal.{outcome_status};
 ghost use Rattle.terms.specs.Poly.{terms_of};
 ghost use Rattle.poly.specs.Door.{open_if};
 ghost use Rattle.text.specs.Ascii.{bytes};
@@ -13,13 +13,13 @@ ghost use Rattle.horner.specs.Written.{text_of, refused_for, done_after, written
 ghost use Rattle.horner.specs.Promise.{ReadsBack};
 
 use poly::Gate;
-use ratio::{Outcome, Ratio, Reason};
+use ratio::{Ratio, Reason};
 use terms::Poly;
 
 // How many bytes were written.
 #[derive(Clone, Copy)]
 pub struct Written {
-    pub outcome: Outcome,
+    pub outcome: Result<(), Reason>,
     pub len: usize,
 }
 
@@ -27,7 +27,7 @@ fn refused(why: Reason) -> Written
     ensures { result ≡ refused_for why }
 {
     Written {
-        outcome: Outcome::Refused(why),
+        outcome: Err(why),
         len: 0,
     }
 }
@@ -120,7 +120,7 @@ fn index_door(wrt: u64) -> Gate
 pub fn to_lowered(p: Poly, wrt: u64, out: &mut [u8]) -> Written
     ensures is { result ≡ written_of p wrt out.old }
     ensures page { out.new ≡ page_of p wrt out.old }
-    ensures back { outcome_status result.outcome ≡ 0 → ReadsBack p wrt (take result.len out.new) }
+    ensures back { status_of result.outcome ≡ 0 → ReadsBack p wrt (take result.len out.new) }
 {
     let d = poly::both(index_door(wrt), poly::door(p));
     if let Gate::Open = d {
@@ -130,7 +130,7 @@ pub fn to_lowered(p: Poly, wrt: u64, out: &mut [u8]) -> Written
         }
         write(p, wrt, out);
         Written {
-            outcome: Outcome::Done,
+            outcome: Ok(()),
             len,
         }
     } else {

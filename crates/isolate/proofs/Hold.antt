@@ -1,4 +1,6 @@
 -- Laws of the roots in their array: what is in use, and one more.
+use Rattle.ratio.specs.Refusal.{no_refusal}
+use Rattle.std.specs.Prelude.{Ok}
 use mathlib.Core.Path.{◌≡◌, sym, ap, ◌∙◌}
 use mathlib.Core.List.{List, [], ◌∷◌, ◌++◌, append_assoc}
 use Prim.Native.Nat.{ℕ, suc, ◌+◌, ◌-◌, ◌<◌}
@@ -7,7 +9,6 @@ use native.Mathlib.Omega.{arith}
 use lib.Ieee.{Float, binary64, of_bits}
 use lib.ListN.{length, take, drop, get_or, set, replicate, length-append}
 use lib.Seq.{take-append_seam, set-append_seam, drop-cons}
-use Rattle.ratio.specs.declared.Outcome.TheVariants as O
 use Rattle.terms.proofs.Lists.{read-terms}
 use Rattle.isolate.specs.declared.Isolation.{Isolation}
 use Rattle.isolate.specs.Answer.{roots_in, holding, Kept}
@@ -24,7 +25,7 @@ kept-len r k = ap (λ (x : Isolation). x.len) k
 filled : (l : List Float) (x : Float) (k m : ℕ) → k ≡ suc m → set (l ++ replicate k (of_bits binary64 0)) (length l) x ≡ (l ++ (x ∷ [])) ++ replicate m (of_bits binary64 0)
 filled l x k m e = rw (e, append_assoc) (set-append_seam l (of_bits binary64 0) (replicate m (of_bits binary64 0)) x)
 
-one_more : (l : List Float) (x : Float) → length l < 64 → ◌≡◌ {A = Isolation} (record { outcome = O.Done; roots = set (holding l).roots (length l) x; len = length l + 1 }) (holding (l ++ (x ∷ [])))
+one_more : (l : List Float) (x : Float) → length l < 64 → ◌≡◌ {A = Isolation} (record { outcome = no_refusal; roots = set (holding l).roots (length l) x; len = length l + 1 }) (holding (l ++ (x ∷ [])))
 one_more l x h =
     let n : length (l ++ (x ∷ [])) ≡ length l + 1 = length-append l (x ∷ []) in
     rw (filled l x (64 - length l) (64 - (length l + 1)) (omega arith), n)

@@ -5,7 +5,7 @@ use mathlib.Core.List.{List, []}
 use Prim.Native.Nat.{ℕ, ◌<◌}
 use native.Mathlib.Omega.{arith}
 use lib.Ieee.{Float}
-use Rattle.ratio.specs.Refusal.{number_of, outcome_status}
+use Rattle.ratio.specs.Refusal.{number_of, status_of}
 use Rattle.ratio.specs.declared.Ratio.{Ratio}
 use Rattle.ratio.specs.declared.Reason.{Reason}
 use Rattle.terms.specs.declared.Poly.{Poly}
@@ -99,19 +99,19 @@ isolate-refuses p lo hi tol =
 -- ---- the door
 
 module _ (p : Poly) (lo hi tol : Float) where
-  limits-bad : within lo hi tol ≡ false → outcome_status (isolate_for p lo hi tol).outcome ≡ 5
-  limits-bad h = ap (λ (b : Bool). outcome_status (entered refused_for (both (open_if b) (door_of p)) (isolation_of (isolate_from (terms_of p) lo hi tol))).outcome) h
+  limits-bad : within lo hi tol ≡ false → status_of (isolate_for p lo hi tol).outcome ≡ 5
+  limits-bad h = ap (λ (b : Bool). status_of (entered refused_for (both (open_if b) (door_of p)) (isolation_of (isolate_from (terms_of p) lo hi tol))).outcome) h
 
-  too_long : within lo hi tol ≡ true → 32 < p.len → outcome_status (isolate_for p lo hi tol).outcome ≡ 4
+  too_long : within lo hi tol ≡ true → 32 < p.len → status_of (isolate_for p lo hi tol).outcome ≡ 4
   too_long h k =
-      ap (λ (b : Bool). outcome_status (entered refused_for (both (open_if b) (door_of p)) (isolation_of (isolate_from (terms_of p) lo hi tol))).outcome) h
-      ∙ ap (λ (d : Gate). outcome_status (entered refused_for d (isolation_of (isolate_from (terms_of p) lo hi tol))).outcome) (sym (door-long p k))
+      ap (λ (b : Bool). status_of (entered refused_for (both (open_if b) (door_of p)) (isolation_of (isolate_from (terms_of p) lo hi tol))).outcome) h
+      ∙ ap (λ (d : Gate). status_of (entered refused_for d (isolation_of (isolate_from (terms_of p) lo hi tol))).outcome) (sym (door-long p k))
 
   -- the part of the promise that doesn't ask why the door is shut
   record Told (r : Isolation) : Type 0 where
-    pub isolates : outcome_status r.outcome ≡ 0 → Isolates (reading p) lo hi tol (roots_in r)
-    pub refused : (outcome_status r.outcome ≡ 0 → ⊥) → roots_in r ≡ []
-    pub over : both (limits_of lo hi tol) (door_of p) ≡ Open → (outcome_status r.outcome ≡ 0 → ⊥) → (outcome_status r.outcome ≡ 2 → ⊥) → (outcome_status r.outcome ≡ 4 → ⊥) → outcome_status r.outcome ≡ 7
+    pub isolates : status_of r.outcome ≡ 0 → Isolates (reading p) lo hi tol (roots_in r)
+    pub refused : (status_of r.outcome ≡ 0 → ⊥) → roots_in r ≡ []
+    pub over : both (limits_of lo hi tol) (door_of p) ≡ Open → (status_of r.outcome ≡ 0 → ⊥) → (status_of r.outcome ≡ 2 → ⊥) → (status_of r.outcome ≡ 4 → ⊥) → status_of r.outcome ≡ 7
 
   shut-told : (both (limits_of lo hi tol) (door_of p) ≡ Open → ⊥) → (why : Reason) → Told (refused_for why)
   shut-told shut why = record { isolates = λ s. absurd (never_done why s); refused = λ s. refl; over = λ o. absurd (shut o) }

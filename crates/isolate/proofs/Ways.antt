@@ -1,10 +1,11 @@
 -- The limits and the isolation: each way it can go.
+use Rattle.ratio.specs.Refusal.{no_refusal}
+use Rattle.std.specs.Prelude.{Ok, Err}
 use mathlib.Core.Path.{◌≡◌, refl, sym, ap₂}
 use mathlib.Core.Bool.{Bool, true, false, ◌&&◌}
 use mathlib.Core.List.{List, []}
 use lib.Ieee.{Float, binary64, of_bits, lt}
 use lib.Ieee.Scale.{finite}
-use Rattle.ratio.specs.declared.Outcome.TheVariants as O
 use Rattle.ratio.specs.declared.Ratio.{Ratio}
 use Rattle.ratio.specs.declared.Reason.{Reason}
 use Rattle.terms.specs.declared.Answer.{Answer}
@@ -45,20 +46,20 @@ module _ (lo hi tol : Float) where
   both-fine h k = limits-by true true h k
 
 module _ (p : List Ratio) (lo hi tol : Float) (f : Answer) (e : f ≡ answer_of (square_free plain p 0)) where
-  pub free-refused : (why : Reason) → f.outcome ≡ O.Refused why → refused_for why ≡ isolation_of (isolate_from p lo hi tol)
+  pub free-refused : (why : Reason) → f.outcome ≡ Err why → refused_for why ≡ isolation_of (isolate_from p lo hi tol)
   unfolding isolate_from
   free-refused why o = rw (list-none f (square_free plain p 0) why e o)
 
-  module _ (o : f.outcome ≡ O.Done) (c : Chain) (ec : c ≡ chain_of (sequence_of (terms_of f.poly))) where
-    pub chain-refused : (why : Reason) → c.outcome ≡ O.Refused why → refused_for why ≡ isolation_of (isolate_from p lo hi tol)
+  module _ (o : f.outcome ≡ no_refusal) (c : Chain) (ec : c ≡ chain_of (sequence_of (terms_of f.poly))) where
+    pub chain-refused : (why : Reason) → c.outcome ≡ Err why → refused_for why ≡ isolation_of (isolate_from p lo hi tol)
     unfolding isolate_from
     chain-refused why oc = rw (list-got f (square_free plain p 0) e o, chain-none c (sequence_of (terms_of f.poly)) why ec oc)
 
-    module _ (oc : c.outcome ≡ O.Done) (b : Brackets) (eb : b ≡ brackets_of (bisect_of (rows_of (entries_of c)) lo hi tol)) where
-      pub brackets-refused : (why : Reason) → b.outcome ≡ O.Refused why → refused_for why ≡ isolation_of (isolate_from p lo hi tol)
+    module _ (oc : c.outcome ≡ no_refusal) (b : Brackets) (eb : b ≡ brackets_of (bisect_of (rows_of (entries_of c)) lo hi tol)) where
+      pub brackets-refused : (why : Reason) → b.outcome ≡ Err why → refused_for why ≡ isolation_of (isolate_from p lo hi tol)
       unfolding isolate_from
       brackets-refused why ob = rw (list-got f (square_free plain p 0) e o, chain-got c (sequence_of (terms_of f.poly)) ec oc, brackets-none b (bisect_of (rows_of (entries_of c)) lo hi tol) why eb ob)
 
-      pub isolated : b.outcome ≡ O.Done → holding (apart_onto tol (roots_onto (floats_of (terms_of f.poly)) tol (items_of b) []) []) ≡ isolation_of (isolate_from p lo hi tol)
+      pub isolated : b.outcome ≡ no_refusal → holding (apart_onto tol (roots_onto (floats_of (terms_of f.poly)) tol (items_of b) []) []) ≡ isolation_of (isolate_from p lo hi tol)
       unfolding isolate_from
       isolated ob = rw (list-got f (square_free plain p 0) e o, chain-got c (sequence_of (terms_of f.poly)) ec oc, brackets-got b (bisect_of (rows_of (entries_of c)) lo hi tol) eb ob)

@@ -1,8 +1,8 @@
 -- Demand 2 for the isolation of real roots (document 01, module 6): the roots come from brackets found along the chain of a square-free part. Floats may miss a root, so that nothing is said of the reals.
+use Rattle.ratio.specs.Refusal.{status_of}
 use Rattle.std.specs.Prelude.{◌≡◌, true, false, List, [], map, ◌<◌, Float}
 use Rattle.algebra.specs.Rational.{Rat}
 use Rattle.algebra.specs.Textbook.{IsZero, Divides, IsRoot}
-use Rattle.ratio.specs.Refusal.{outcome_status}
 use Rattle.ratio.specs.declared.Ratio.{Ratio}
 use Rattle.terms.specs.declared.Poly.{Poly}
 use Rattle.terms.specs.Meaning.{rats}
@@ -34,10 +34,10 @@ pub record Isolates (f : List Rat) (lo hi tol : Float) (l : List Float) : Type 0
   pub roots : l ≡ apart_onto tol (roots_onto (floats_of part) tol brackets []) []
 
 pub record IsolationPromise (p : Poly) (lo hi tol : Float) (r : Isolation) : Type 0 where
-  pub isolates : outcome_status r.outcome ≡ 0 → Isolates (reading p) lo hi tol (roots_in r)
-  pub refused : (outcome_status r.outcome ≡ 0 → ⊥) → roots_in r ≡ []
+  pub isolates : status_of r.outcome ≡ 0 → Isolates (reading p) lo hi tol (roots_in r)
+  pub refused : (status_of r.outcome ≡ 0 → ⊥) → roots_in r ≡ []
   -- 5 for an end or a tolerance outside its limits, before 4 for a length over 32
-  pub limits : within lo hi tol ≡ false → outcome_status r.outcome ≡ 5
-  pub long : within lo hi tol ≡ true → 32 < p.len → outcome_status r.outcome ≡ 4
+  pub limits : within lo hi tol ≡ false → status_of r.outcome ≡ 5
+  pub long : within lo hi tol ≡ true → 32 < p.len → status_of r.outcome ≡ 4
   -- then 2, 4 and 7 alone
-  pub over : within lo hi tol ≡ true → door_of p ≡ Open → (outcome_status r.outcome ≡ 0 → ⊥) → (outcome_status r.outcome ≡ 2 → ⊥) → (outcome_status r.outcome ≡ 4 → ⊥) → outcome_status r.outcome ≡ 7
+  pub over : within lo hi tol ≡ true → door_of p ≡ Open → (status_of r.outcome ≡ 0 → ⊥) → (status_of r.outcome ≡ 2 → ⊥) → (status_of r.outcome ≡ 4 → ⊥) → status_of r.outcome ≡ 7

@@ -14,14 +14,14 @@ ghost use Rattle.isolate.specs.Price.{isolation_quote, QuotesIsolation};
 
 use bisect::Brackets;
 use poly::Gate;
-use ratio::{Outcome, Reason};
+use ratio::Reason;
 use refine::Root;
 use terms::Poly;
 
 // The roots, rising, or why there are none.
 #[derive(Clone, Copy)]
 pub struct Isolation {
-    pub outcome: Outcome,
+    pub outcome: Result<(), Reason>,
     pub roots: [f64; 64],
     pub len: usize,
 }
@@ -47,7 +47,7 @@ fn refused(why: Reason) -> Isolation
     ensures { result ≡ refused_for why }
 {
     Isolation {
-        outcome: Outcome::Refused(why),
+        outcome: Err(why),
         roots: [0.0; 64],
         len: 0,
     }
@@ -57,7 +57,7 @@ fn nothing() -> Isolation
     ensures { result ≡ holding [] }
 {
     Isolation {
-        outcome: Outcome::Done,
+        outcome: Ok(()),
         roots: [0.0; 64],
         len: 0,
     }
@@ -206,18 +206,18 @@ fn isolate_plain(p: Poly, lo: f64, hi: f64, tol: f64) -> Isolation
 {
     let f = remainders::free_part(p);
     let o = f.outcome;
-    if let Outcome::Refused(why) = o {
+    if let Err(why) = o {
         return refused(why);
     }
     let sf = f.poly;
     let c = chain::sequence(sf);
     let oc = c.outcome;
-    if let Outcome::Refused(why) = oc {
+    if let Err(why) = oc {
         return refused(why);
     }
     let b = bisect::bisect_isolate(c, lo, hi, tol);
     let ob = b.outcome;
-    if let Outcome::Refused(why) = ob {
+    if let Err(why) = ob {
         return refused(why);
     }
     dedup(gather(sf, b, tol), tol)

@@ -1,10 +1,10 @@
 -- Laws of laying a reply on a page.
+use Rattle.std.specs.Prelude.{Ok, Err}
 use mathlib.Core.Path.{◌≡◌, refl, sym, ap, ap₂, subst, ◌∙◌}
 use mathlib.Core.List.{List}
 use Prim.Native.Nat.{ℕ, ◌≤◌}
 use lib.ListN.{length}
-use Rattle.ratio.specs.declared.Outcome.{Outcome}
-use Rattle.ratio.specs.declared.Outcome.TheVariants as O
+use Rattle.ratio.specs.Refusal.{Outcome, no_refusal}
 use Rattle.ratio.specs.declared.Reason.{Reason}
 use Rattle.text.specs.Page.{laid, after}
 use Rattle.factor.specs.declared.Factorization.{Factorization}
@@ -24,10 +24,10 @@ pub worked : {X : Type 0} (f : Op → X → Reply) (r : Request) (op : Op) (x y 
 worked f r op x y k e w entry exit t l = subst (λ (a : Reply). LaysReply a entry exit t) (ap₂ f k e ∙ w ∙ ap (λ (o : Op). work_for o r) (sym k)) l
 
 module _ (r : Request) (entry exit : List ℕ) (t : Ran) where
-  pub job-done : r.outcome ≡ O.Done → LaysReply (work_for r.op r) entry exit t → LaysReply (work_of r) entry exit t
+  pub job-done : r.outcome ≡ no_refusal → LaysReply (work_for r.op r) entry exit t → LaysReply (work_of r) entry exit t
   unfolding work_of
   job-done h l = subst (λ (a : Reply). LaysReply a entry exit t) (ap (λ (o : Outcome). unless_refused o r) (sym h)) l
 
-  pub job-refused : (why : Reason) → r.outcome ≡ O.Refused why → LaysReply (refusing r.op why) entry exit t → LaysReply (work_of r) entry exit t
+  pub job-refused : (why : Reason) → r.outcome ≡ Err why → LaysReply (refusing r.op why) entry exit t → LaysReply (work_of r) entry exit t
   unfolding work_of
   job-refused why h l = subst (λ (a : Reply). LaysReply a entry exit t) (ap (λ (o : Outcome). unless_refused o r) (sym h)) l

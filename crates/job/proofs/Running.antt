@@ -6,7 +6,7 @@ use native.Mathlib.Omega.{arith}
 use borrow.Author.Tests.{lt-ltb, le-ltb}
 use lib.ListN.{length, take, drop, length-append}
 use lib.Seq.{take-append_seam}
-use Rattle.ratio.specs.declared.Outcome.{Outcome}
+use Rattle.ratio.specs.Refusal.{Outcome}
 use Rattle.text.specs.Page.{laid}
 use Rattle.text.proofs.Pages.{laid-fits, after-fits}
 use Rattle.request.specs.declared.Request.{Request}

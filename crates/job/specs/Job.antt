@@ -1,11 +1,9 @@
 -- Document 01, "the job program": which operation a job asks for, what comes of it, and the text that is its answer.
-use Rattle.std.specs.Prelude.{List, ℕ}
-use Rattle.ratio.specs.declared.Outcome.{Outcome}
-use Rattle.ratio.specs.declared.Outcome.TheVariants as O
+use Rattle.ratio.specs.declared.Ratio.{Ratio}
+use Rattle.std.specs.Prelude.{List, ℕ, Result, Ok, Err}
+use Rattle.ratio.specs.Refusal.{Outcome, no_refusal}
 use Rattle.ratio.specs.declared.Reason.{Reason}
 use Rattle.ratio.specs.declared.Reason.TheVariants as R
-use Rattle.ratio.specs.declared.Step.{Step}
-use Rattle.ratio.specs.declared.Step.TheVariants as S
 use Rattle.terms.specs.declared.Answer.{Answer}
 use Rattle.remainders.specs.declared.Division.{Division}
 use Rattle.euclid.specs.declared.Whole.{Whole}
@@ -33,7 +31,7 @@ pub record Reply : Type 0 where
   pub text : List ℕ
 
 abbrev pub refusing : Op → Reason → Reply
-refusing op why = record { outcome = O.Refused why; text = refusal_text op why }
+refusing op why = record { outcome = Err why; text = refusal_text op why }
 
 abbrev pub answering : Op → Answer → Reply
 answering op a = record { outcome = a.outcome; text = answer_text op a }
@@ -44,11 +42,11 @@ dividing op d = record { outcome = d.outcome; text = division_text op d }
 abbrev pub numbering : Op → Whole → Reply
 numbering op w = record { outcome = w.outcome; text = number_text op w }
 
-abbrev pub outcome_of : Step → Outcome
-outcome_of (S.Done x) = O.Done
-outcome_of (S.Refused why) = O.Refused why
+abbrev pub outcome_of : Result Ratio Reason → Outcome
+outcome_of (Ok x) = no_refusal
+outcome_of (Err why) = Err why
 
-abbrev pub valuing : Op → Step → Reply
+abbrev pub valuing : Op → Result Ratio Reason → Reply
 valuing op s = record { outcome = outcome_of s; text = value_text op s }
 
 abbrev pub rooting : Op → Roots → Reply
@@ -83,8 +81,8 @@ work_for Ops.Isolate r = isolating Ops.Isolate (isolate_for r.a r.lo r.hi r.tol)
 work_for Ops.Unknown r = refusing Ops.Unknown R.BadInput
 
 abbrev pub unless_refused : Outcome → Request → Reply
-unless_refused O.Done r = work_for r.op r
-unless_refused (O.Refused why) r = refusing r.op why
+unless_refused (Ok _) r = work_for r.op r
+unless_refused (Err why) r = refusing r.op why
 
 -- the reply to a job that was read, or to one that was refused while it was read
 unfoldable pub work_of : Request → Reply

@@ -1,14 +1,13 @@
 -- Document 01, "the job program" and refusal 8: an answer is written whole, or nothing is where the lent output is shorter than it.
-use Rattle.std.specs.Prelude.{cond, List, ◌++◌, ℕ, ◌≤◌, ltb, length, drop}
-use Rattle.ratio.specs.declared.Outcome.{Outcome}
-use Rattle.ratio.specs.declared.Outcome.TheVariants as O
+use Rattle.std.specs.Prelude.{cond, List, ◌++◌, ℕ, ◌≤◌, ltb, length, drop, Ok, Err}
+use Rattle.ratio.specs.Refusal.{Outcome}
 use Rattle.ratio.specs.declared.Reason.{Reason}
 use Rattle.ratio.specs.declared.Reason.TheVariants as R
 use Rattle.job.specs.declared.Ran.{Ran}
 use Rattle.job.specs.Job.{Reply, reply_to}
 
 abbrev pub no_room : Ran
-no_room = record { outcome = O.Refused R.NoRoom; len = 0 }
+no_room = record { outcome = Err R.NoRoom; len = 0 }
 
 -- what is handed back for an output of n bytes
 abbrev pub ran_in : ℕ → Reply → Ran
@@ -38,5 +37,5 @@ place_for R.TooDeep = nowhere
 place_for R.NoRoom = nowhere
 
 abbrev pub place_in : Outcome → ℕ
-place_in O.Done = nowhere
-place_in (O.Refused why) = place_for why
+place_in (Ok _) = nowhere
+place_in (Err why) = place_for why

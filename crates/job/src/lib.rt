@@ -11,7 +11,7 @@ ghost use Rattle.job.specs.Run.{ran_in, written_on, FitsPage, place_in};
 use euclid::Whole;
 use isolate::Isolation;
 use ops::Op;
-use ratio::{Outcome, Reason, Step};
+use ratio::{Ratio, Reason};
 use remainders::Division;
 use request::Request;
 use search::Roots;
@@ -21,7 +21,7 @@ use terms::{Answer, Poly};
 // What came of a job: its outcome, with the place of what is malformed, and how many bytes its answer has.
 #[derive(Clone, Copy)]
 pub struct Ran {
-    pub outcome: Outcome,
+    pub outcome: Result<(), Reason>,
     pub len: usize,
 }
 
@@ -31,7 +31,7 @@ fn refuse(op: Op, why: Reason, page: &mut [u8]) -> Ran
     ensures { LaysReply (refusing op why) page.old page.new result }
 {
     Ran {
-        outcome: Outcome::Refused(why),
+        outcome: Err(why),
         len: reply::show_refusal(op, why, page, 0),
     }
 }
@@ -66,16 +66,16 @@ fn number(op: Op, w: Whole, page: &mut [u8]) -> Ran
     }
 }
 
-fn outcome_of(s: Step) -> Outcome
+fn outcome_of(s: Result<Ratio, Reason>) -> Result<(), Reason>
     ensures { result ≡ outcome_of s }
 {
     match s {
-        Step::Done(_) => Outcome::Done,
-        Step::Refused(why) => Outcome::Refused(why),
+        Ok(_) => Ok(()),
+        Err(why) => Err(why),
     }
 }
 
-fn value(op: Op, s: Step, page: &mut [u8]) -> Ran
+fn value(op: Op, s: Result<Ratio, Reason>, page: &mut [u8]) -> Ran
     ensures { LaysReply (valuing op s) page.old page.new result }
 {
     let outcome = outcome_of(s);
@@ -161,8 +161,8 @@ fn reply_to(r: Request, page: &mut [u8]) -> Ran
     let o = r.outcome;
     let op = r.op;
     match o {
-        Outcome::Done => work(r, page),
-        Outcome::Refused(why) => refuse(op, why, page),
+        Ok(()) => work(r, page),
+        Err(why) => refuse(op, why, page),
     }
 }
 
@@ -178,7 +178,7 @@ pub fn run(input: &[u8], out: &mut [u8]) -> Ran
     let n = t.len;
     if n > out.len() {
         return Ran {
-            outcome: Outcome::Refused(Reason::NoRoom),
+            outcome: Err(Reason::NoRoom),
             len: 0,
         };
     }
@@ -197,12 +197,12 @@ pub fn kanrosuye_job(input: &[u8], out: &mut [u8]) -> usize
     t.len
 }
 
-fn place(o: Outcome) -> usize
+fn place(o: Result<(), Reason>) -> usize
     ensures { result ≡ place_in o }
 {
     match o {
-        Outcome::Done => 0xffff_ffff_ffff_ffff,
-        Outcome::Refused(why) => match why {
+        Ok(()) => 0xffff_ffff_ffff_ffff,
+        Err(why) => match why {
             Reason::NotPolynomial => 0xffff_ffff_ffff_ffff,
             Reason::CoeffOverflow => 0xffff_ffff_ffff_ffff,
             Reason::DivByZero => 0xffff_ffff_ffff_ffff,

@@ -1,4 +1,5 @@
 -- What a factor that was found is: it has degree at least 1, whole coefficients and no zero at the top, and dividing by it leaves no rest.
+use Rattle.std.specs.Prelude.{Ok, Err}
 use mathlib.Core.Path.{◌≡◌, refl, sym, ap, subst, ◌∙◌}
 use mathlib.Core.Bool.{Bool, true, false, not, cond}
 use mathlib.Core.List.{List, [], ◌∷◌}
@@ -7,9 +8,7 @@ use native.Mathlib.Omega.{arith}
 use borrow.Author.Tests.{ltb-false}
 use lib.Dec.{ltb}
 use lib.ListN.{length, get_or}
-use Rattle.ratio.specs.Refusal.{zero_r}
-use Rattle.ratio.specs.declared.Outcome.{Outcome}
-use Rattle.ratio.specs.declared.Outcome.TheVariants as O
+use Rattle.ratio.specs.Refusal.{zero_r, Outcome, no_refusal}
 use Rattle.ratio.specs.declared.Ratio.{Ratio}
 use Rattle.terms.specs.declared.Answer.{Answer}
 use Rattle.terms.specs.Poly.{drop_top, terms_of, poly_of, trim}
@@ -37,7 +36,7 @@ pub record Cut (f : List Ratio) (s : Split) : Type 0 where
   pub lowest : AllLowest candidate
   pub long : 2 ≤ length candidate
   pub whole : all_whole candidate ≡ true
-  pub answered : (divided_of f candidate).outcome ≡ O.Done
+  pub answered : (divided_of f candidate).outcome ≡ no_refusal
   pub no-rest : length (terms_of (divided_of f candidate).rest) ≤ 0
 
 module _ (f : List Ratio) where
@@ -58,14 +57,14 @@ module _ (f : List Ratio) where
 
   -- ---- one candidate, without zeros at the top
   module _ (c : List Ratio) (top : trim c ≡ c) (low : AllLowest c) where
-    rest-sound : (k : 2 ≤ length c) (w : all_whole c ≡ true) (o : (divided_of f c).outcome ≡ O.Done) (b : Bool) → ltb 0 (length (terms_of (divided_of f c).rest)) ≡ b → Sound (cond b (without Next) (found_with c))
+    rest-sound : (k : 2 ≤ length c) (w : all_whole c ≡ true) (o : (divided_of f c).outcome ≡ no_refusal) (b : Bool) → ltb 0 (length (terms_of (divided_of f c).rest)) ≡ b → Sound (cond b (without Next) (found_with c))
     unfolding Sound
     rest-sound k w o true e = sound-next
     rest-sound k w o false e = λ p. record { candidate = c; is = ap poly_of top; trimmed = top; lowest = low; long = k; whole = w; answered = o; no-rest = ltb-false 0 (length (terms_of (divided_of f c).rest)) e }
 
     division-sound : (k : 2 ≤ length c) (w : all_whole c ≡ true) (o : Outcome) → (divided_of f c).outcome ≡ o → Sound (on_outcome o (without NoSplit) (cond (ltb 0 (length (terms_of (divided_of f c).rest))) (without Next) (found_with c)))
-    division-sound k w O.Done e = rest-sound k w e (ltb 0 (length (terms_of (divided_of f c).rest))) refl
-    division-sound k w (O.Refused why) e = sound_none
+    division-sound k w (Ok _) e = rest-sound k w e (ltb 0 (length (terms_of (divided_of f c).rest))) refl
+    division-sound k w (Err why) e = sound_none
 
     whole-sound : (k : 2 ≤ length c) (b : Bool) → all_whole c ≡ b → Sound (cond (not b) (without Next) (judged_by (divided_of f c) c))
     whole-sound k true e = division-sound k e (divided_of f c).outcome refl
@@ -94,9 +93,9 @@ module _ (f : List Ratio) where
   unfolding drop_top
   clean-skip = record { topless = refl; lowest = none-lowest }
 
-  clean-outcome : (o : Outcome) (a : Answer) → (o ≡ O.Done → Clean a) → Clean (on_outcome o skip a)
-  clean-outcome O.Done a t = t refl
-  clean-outcome (O.Refused why) a t = clean-skip
+  clean-outcome : (o : Outcome) (a : Answer) → (o ≡ no_refusal → Clean a) → Clean (on_outcome o skip a)
+  clean-outcome (Ok _) a t = t refl
+  clean-outcome (Err why) a t = clean-skip
 
   clean-repeated : (step : ℕ → List Ratio → Answer) → ((j : ℕ) (acc : List Ratio) → AllLowest (terms_of (step j acc).poly)) → (n j : ℕ) (acc : List Ratio) → AllLowest acc → Clean (repeated step n j acc)
   unfolding repeated
@@ -108,8 +107,8 @@ module _ (f : List Ratio) where
   lowest-answer (over k) h = none-lowest
 
   lowest-outcome : (o : Outcome) (a b : Answer) → AllLowest (terms_of a.poly) → AllLowest (terms_of b.poly) → AllLowest (terms_of (on_outcome o a b).poly)
-  lowest-outcome O.Done a b p q = q
-  lowest-outcome (O.Refused why) a b p q = p
+  lowest-outcome (Ok _) a b p q = q
+  lowest-outcome (Err why) a b p q = p
 
   added-lowest : (acc : List Ratio) (i n : ℕ) (y : Ratio) → AllLowest (terms_of (added_part acc i n y).poly)
   unfolding added_part
@@ -121,8 +120,8 @@ module _ (f : List Ratio) where
   interpolated-clean ys n = clean-repeated _ (λ i acc. added-lowest acc i n (get_or ys i zero_r)) n 0 [] none-lowest
 
   outcome-sound : (o : Outcome) (s : Split) → Sound s → Sound (on_outcome o (without Next) s)
-  outcome-sound O.Done s p = p
-  outcome-sound (O.Refused why) s p = sound-next
+  outcome-sound (Ok _) s p = p
+  outcome-sound (Err why) s p = sound-next
 
   tried-sound : (n : ℕ) (ys : List Ratio) → Sound (tried_of f n ys)
   unfolding tried_of
@@ -176,8 +175,8 @@ made-if true s t p q = p
 made-if false s t p q = q
 
 made-outcome : (o : Outcome) (s t : Split) → Made s → Made t → Made (on_outcome o s t)
-made-outcome O.Done s t p q = q
-made-outcome (O.Refused why) s t p q = p
+made-outcome (Ok _) s t p q = q
+made-outcome (Err why) s t p q = p
 
 module _ (f : List Ratio) where
   made-judged : (c : List Ratio) → Made (judged f c)

@@ -1,4 +1,5 @@
 -- Laws of the points and the values there: a loop that has looked at the first j of them.
+use Rattle.std.specs.Prelude.{Ok, Err}
 use mathlib.Core.Path.{◌≡◌, refl}
 use mathlib.Core.Bool.{Bool, true, false, ◌&&◌}
 use mathlib.Core.List.{List, []}
@@ -11,7 +12,6 @@ use lib.ListN.{length, drop, get_or, drop_of_length-le}
 use lib.Seq.{drop-cons}
 use Rattle.ratio.specs.declared.Ratio.{Ratio}
 use Rattle.ratio.specs.declared.Reason.{Reason}
-use Rattle.ratio.specs.declared.Step.TheVariants.{Done, Refused}
 use Rattle.terms.specs.Machine.{whole_r}
 use Rattle.kronecker.specs.declared.Values.TheVariants.{Over}
 use Rattle.kronecker.specs.Points.{point_of, value_at, is_whole, all_whole, values_if, surveyed}
@@ -54,13 +54,13 @@ module _ (f : List Ratio) (n : ℕ) where
   surveying-none = let s : n - 0 ≡ n = omega arith in record { whole = rw s }
 
   module _ (j : ℕ) (fine : Bool) (h : j < n) (s : Surveying j fine) where
-    pub surveying-more : (v : Ratio) → value_at f j ≡ Done v → Surveying (j + 1) (fine && is_whole v)
+    pub surveying-more : (v : Ratio) → value_at f j ≡ Ok v → Surveying (j + 1) (fine && is_whole v)
     unfolding surveyed
     surveying-more v e =
         let k : n - j ≡ suc (n - suc j) = omega arith in
         record { whole = rw (add-one j) (rw (k, e) at s.whole) }
 
-    pub surveying-over : (why : Reason) → value_at f j ≡ Refused why → Over ≡ surveyed f n 0 true
+    pub surveying-over : (why : Reason) → value_at f j ≡ Err why → Over ≡ surveyed f n 0 true
     unfolding surveyed
     surveying-over why e =
         let k : n - j ≡ suc (n - suc j) = omega arith in

@@ -1,4 +1,6 @@
 -- Laws of a step that is repeated until one is refused: a loop that has made the first j.
+use Rattle.ratio.specs.Refusal.{no_refusal}
+use Rattle.std.specs.Prelude.{Ok, Err}
 use mathlib.Core.Path.{◌≡◌, sym, ap, subst, ◌∙◌}
 use mathlib.Core.Bool.{true, false}
 use mathlib.Core.List.{List}
@@ -8,13 +10,11 @@ use native.Mathlib.Decide.{ℕ_discrete}
 use native.Mathlib.Omega.{arith}
 use lib.ListN.{length, get_or, set}
 use lib.Seq.{get_or-set_same, get_or-set_other}
-use Rattle.ratio.specs.declared.Outcome.TheVariants as O
 use Rattle.ratio.specs.declared.Ratio.{Ratio}
 use Rattle.ratio.specs.declared.Reason.{Reason}
 use Rattle.terms.specs.declared.Answer.{Answer}
 use Rattle.terms.specs.Poly.{terms_of}
 use Rattle.ratio.specs.Step.{new_of}
-use Rattle.ratio.specs.declared.Step.TheVariants.{Done, Refused}
 use Rattle.terms.specs.Machine.{plus, fine, plain}
 use Rattle.terms.specs.Work.{zipped, scaled}
 use Rattle.terms.specs.Answer.{answer_of, value_of}
@@ -23,10 +23,10 @@ use Rattle.kronecker.specs.Points.{point_of}
 use Rattle.kronecker.specs.Interpolation.{skip, on_outcome, on_answer, repeated, basis_of, part_of, added_part, part_from, added_from, Serves, Serving}
 
 -- an answer that was given goes on, another one doesn't
-pub answer-done : {X : Type 0} (a b : Answer) (x : X) (k : List Ratio → X) → b ≡ a → b.outcome ≡ O.Done → k (terms_of b.poly) ≡ on_answer a x k
+pub answer-done : {X : Type 0} (a b : Answer) (x : X) (k : List Ratio → X) → b ≡ a → b.outcome ≡ no_refusal → k (terms_of b.poly) ≡ on_answer a x k
 answer-done a b x k e o = sym (ap (λ t. on_outcome t x (k (terms_of b.poly))) o) ∙ ap (λ (t : Answer). on_answer t x k) e
 
-pub answer-refused : {X : Type 0} (a b : Answer) (x : X) (k : List Ratio → X) (why : Reason) → b ≡ a → b.outcome ≡ O.Refused why → x ≡ on_answer a x k
+pub answer-refused : {X : Type 0} (a b : Answer) (x : X) (k : List Ratio → X) (why : Reason) → b ≡ a → b.outcome ≡ Err why → x ≡ on_answer a x k
 answer-refused a b x k why e o = sym (ap (λ t. on_outcome t x (k (terms_of b.poly))) o) ∙ ap (λ (t : Answer). on_answer t x k) e
 
 module _ (step : ℕ → List Ratio → Answer) (n : ℕ) (start : List Ratio) where
@@ -38,13 +38,13 @@ module _ (step : ℕ → List Ratio → Answer) (n : ℕ) (start : List Ratio) w
   repeating-none acc e = let s : n - 0 ≡ n = omega arith in record { whole = rw (s, e) }
 
   module _ (j : ℕ) (acc : List Ratio) (h : j < n) (s : Repeating j acc) (a : Answer) (e : a ≡ step j acc) where
-    pub repeating-more : a.outcome ≡ O.Done → Repeating (j + 1) (terms_of a.poly)
+    pub repeating-more : a.outcome ≡ no_refusal → Repeating (j + 1) (terms_of a.poly)
     unfolding repeated
     repeating-more o =
         let k : n - j ≡ suc (n - suc j) = omega arith in
         record { whole = rw (add-one j) (answer-done (step j acc) a skip (repeated step (n - suc j) (suc j)) e o ∙ (rw k at s.whole)) }
 
-    pub repeating-over : (why : Reason) → a.outcome ≡ O.Refused why → skip ≡ repeated step n 0 start
+    pub repeating-over : (why : Reason) → a.outcome ≡ Err why → skip ≡ repeated step n 0 start
     unfolding repeated
     repeating-over why o =
         let k : n - j ≡ suc (n - suc j) = omega arith in
@@ -57,16 +57,16 @@ module _ (step : ℕ → List Ratio → Answer) (n : ℕ) (start : List Ratio) w
 -- ---- the basis of a point
 
 module _ (i n : ℕ) (b : Answer) (e : b ≡ basis_of i n) where
-  pub serves-none : (why : Reason) → b.outcome ≡ O.Refused why → (r : Basis) → r.fine ≡ false → Serves i n r
+  pub serves-none : (why : Reason) → b.outcome ≡ Err why → (r : Basis) → r.fine ≡ false → Serves i n r
   unfolding part_of
   serves-none why o r f = record { is = λ y. rw (f, ← e, o) }
 
-  module _ (o : b.outcome ≡ O.Done) where
-    pub serves-valueless : (why : Reason) → value_of (terms_of b.poly) (point_of i) ≡ Refused why → (r : Basis) → r.fine ≡ false → Serves i n r
+  module _ (o : b.outcome ≡ no_refusal) where
+    pub serves-valueless : (why : Reason) → value_of (terms_of b.poly) (point_of i) ≡ Err why → (r : Basis) → r.fine ≡ false → Serves i n r
     unfolding part_of
     serves-valueless why v r f = record { is = λ y. rw (f, ← e, o, v) }
 
-    pub serves-done : (d : Ratio) → value_of (terms_of b.poly) (point_of i) ≡ Done d → Serves i n (record { fine = true; poly = b.poly; at = d })
+    pub serves-done : (d : Ratio) → value_of (terms_of b.poly) (point_of i) ≡ Ok d → Serves i n (record { fine = true; poly = b.poly; at = d })
     unfolding part_of
     serves-done d v = record { is = λ y. rw (← e, o, v) }
 
@@ -90,10 +90,10 @@ module _ (b : Basis) (y : Ratio) where
   part_none f = rw f
 
   module _ (f : b.fine ≡ true) where
-    pub part-broken : (why : Reason) → new_of y.num b.at.num ≡ Refused why → skip ≡ part_from b y
+    pub part-broken : (why : Reason) → new_of y.num b.at.num ≡ Err why → skip ≡ part_from b y
     part-broken why s = rw (f, s)
 
-    pub part-done : (s : Ratio) → new_of y.num b.at.num ≡ Done s → answer_of (scaled plain (terms_of b.poly) s 0) ≡ part_from b y
+    pub part-done : (s : Ratio) → new_of y.num b.at.num ≡ Ok s → answer_of (scaled plain (terms_of b.poly) s 0) ≡ part_from b y
     part-done s w = rw (f, w)
 
 module _ (acc : List Ratio) (b : Basis) (y : Ratio) where
@@ -102,8 +102,8 @@ module _ (acc : List Ratio) (b : Basis) (y : Ratio) where
   added-serves i n s = ap (λ (a : Answer). on_answer a skip (λ p. answer_of (zipped plain plus acc p 0))) (s.is y)
 
   module _ (p : Answer) (e : p ≡ part_from b y) where
-    pub added_none : (why : Reason) → p.outcome ≡ O.Refused why → skip ≡ added_from acc b y
+    pub added_none : (why : Reason) → p.outcome ≡ Err why → skip ≡ added_from acc b y
     added_none why o = answer-refused (part_from b y) p skip (λ p. answer_of (zipped plain plus acc p 0)) why e o
 
-    pub added-done : p.outcome ≡ O.Done → answer_of (zipped plain plus acc (terms_of p.poly) 0) ≡ added_from acc b y
+    pub added-done : p.outcome ≡ no_refusal → answer_of (zipped plain plus acc (terms_of p.poly) 0) ≡ added_from acc b y
     added-done o = answer-done (part_from b y) p skip (λ p. answer_of (zipped plain plus acc p 0)) e o

@@ -1,4 +1,6 @@
 -- Laws of combinations: how they lie in memory, and loops that let them grow.
+use Rattle.ratio.specs.Refusal.{no_refusal}
+use Rattle.std.specs.Prelude.{Ok, Err}
 use mathlib.Core.Path.{◌≡◌, refl, sym, ap, ◌∙◌}
 use mathlib.Core.Bool.{true, false}
 use mathlib.Core.List.{List, [], ◌∷◌, ◌++◌, map, map-append}
@@ -9,7 +11,6 @@ use borrow.Author.Tests.{le-leb, lt-leb}
 use lib.IntN.{ℤ, nat_abs}
 use lib.ListN.{length, take, drop, get_or, length-map, drop_of_length-le}
 use lib.Seq.{length-take-le, drop-cons, get_or-take}
-use Rattle.ratio.specs.declared.Outcome.TheVariants as O
 use Rattle.ratio.specs.declared.Ratio.{Ratio}
 use Rattle.ratio.specs.declared.Reason.{Reason}
 use Rattle.terms.specs.Machine.{whole_r}
@@ -116,18 +117,18 @@ module _ (f : List Ratio) (budget n : ℕ) where
   gathers-none l e = let s : n - 0 ≡ n = omega arith in record { whole = rw (s, e) }
 
   module _ (j : ℕ) (l : List (List Ratio)) (h : j < n) (g : Gathers j l) (a : Listing) (e : a ≡ listing_of (number_at f j) budget) where
-    pub gathers-more : (next : List (List Ratio)) → a.outcome ≡ O.Done → next ≡ grown l (factors_of (nat_abs (number_at f j))) → Gathers (j + 1) next
+    pub gathers-more : (next : List (List Ratio)) → a.outcome ≡ no_refusal → next ≡ grown l (factors_of (nat_abs (number_at f j))) → Gathers (j + 1) next
     unfolding gathered
     gathers-more next o p =
         let k : n - j ≡ suc (n - suc j) = omega arith in
-        let q : (listing_of (number_at f j) budget).outcome ≡ O.Done = sym (ap (λ (t : Listing). t.outcome) e) ∙ o in
+        let q : (listing_of (number_at f j) budget).outcome ≡ no_refusal = sym (ap (λ (t : Listing). t.outcome) e) ∙ o in
         record { whole = rw (add-one j, p) (rw (k, q) at g.whole) }
 
-    pub gathers-over : (r : Gathered) (why : Reason) → a.outcome ≡ O.Refused why → r.outcome ≡ O.Refused why → gathering_of n r ≡ gathered f budget n 0 ([] ∷ [])
+    pub gathers-over : (r : Gathered) (why : Reason) → a.outcome ≡ Err why → r.outcome ≡ Err why → gathering_of n r ≡ gathered f budget n 0 ([] ∷ [])
     unfolding gathered
     gathers-over r why o p =
         let k : n - j ≡ suc (n - suc j) = omega arith in
-        let q : (listing_of (number_at f j) budget).outcome ≡ O.Refused why = sym (ap (λ (t : Listing). t.outcome) e) ∙ o in
+        let q : (listing_of (number_at f j) budget).outcome ≡ Err why = sym (ap (λ (t : Listing). t.outcome) e) ∙ o in
         rw p (rw (k, q) at g.whole)
 
   pub gathers-all : (j : ℕ) (l : List (List Ratio)) → n ≤ j → Gathers j l → made l ≡ gathered f budget n 0 ([] ∷ [])

@@ -1,4 +1,6 @@
 -- Laws of the search: what a trial tells, and loops over combinations and degrees.
+use Rattle.ratio.specs.Refusal.{no_refusal}
+use Rattle.std.specs.Prelude.{Ok, Err}
 use mathlib.Core.Path.{◌≡◌, refl, sym, ap, ◌∙◌}
 use mathlib.Core.Bool.{true, false}
 use mathlib.Core.List.{List, []}
@@ -8,7 +10,6 @@ use native.Mathlib.Omega.{arith}
 use borrow.Author.Tests.{lt-ltb, le-ltb}
 use lib.ListN.{length, drop, get_or, drop_of_length-le}
 use lib.Seq.{drop-cons}
-use Rattle.ratio.specs.declared.Outcome.TheVariants as O
 use Rattle.ratio.specs.declared.Ratio.{Ratio}
 use Rattle.ratio.specs.declared.Reason.{Reason}
 use Rattle.terms.specs.declared.Answer.{Answer}
@@ -92,32 +93,32 @@ module _ (f c : List Ratio) where
     judged-broken w = rw (le-ltb (length c) 2 h, w)
 
     module _ (w : all_whole c ≡ true) (d : Division) (e : d ≡ divided_of f c) where
-      pub judged-over : (why : Reason) → d.outcome ≡ O.Refused why → without NoSplit ≡ judged f c
+      pub judged-over : (why : Reason) → d.outcome ≡ Err why → without NoSplit ≡ judged f c
       unfolding judged
       judged-over why o = rw (le-ltb (length c) 2 h, w, ← e, o)
 
-      pub judged-next : d.outcome ≡ O.Done → 0 < length (terms_of d.rest) → without Next ≡ judged f c
+      pub judged-next : d.outcome ≡ no_refusal → 0 < length (terms_of d.rest) → without Next ≡ judged f c
       unfolding judged
       judged-next o k = rw (le-ltb (length c) 2 h, w, ← e, o, lt-ltb 0 (length (terms_of d.rest)) k)
 
-      pub judged-found : d.outcome ≡ O.Done → length (terms_of d.rest) ≤ 0 → found_with c ≡ judged f c
+      pub judged-found : d.outcome ≡ no_refusal → length (terms_of d.rest) ≤ 0 → found_with c ≡ judged f c
       unfolding judged
       judged-found o k = rw (le-ltb (length c) 2 h, w, ← e, o, le-ltb 0 (length (terms_of d.rest)) k)
 
 module _ (f : List Ratio) (n : ℕ) (ys : List Ratio) (a : Answer) (e : a ≡ interpolated_of ys n) where
-  pub tried-skipped : (why : Reason) → a.outcome ≡ O.Refused why → without Next ≡ tried_of f n ys
+  pub tried-skipped : (why : Reason) → a.outcome ≡ Err why → without Next ≡ tried_of f n ys
   unfolding tried_of
   tried-skipped why o = rw (← e, o)
 
-  pub tried-judged : a.outcome ≡ O.Done → judged f (terms_of a.poly) ≡ tried_of f n ys
+  pub tried-judged : a.outcome ≡ no_refusal → judged f (terms_of a.poly) ≡ tried_of f n ys
   unfolding tried_of
   tried-judged o = rw (← e, o)
 
 -- ---- what was gathered
 
 module _ (f : List Ratio) (n : ℕ) (all : Gathering) (g : Gathered) (e : gathering_of n g ≡ all) where
-  pub gathered-refused : (why : Reason) → g.outcome ≡ O.Refused why → without (Refused why) ≡ tried_gathered f n all
+  pub gathered-refused : (why : Reason) → g.outcome ≡ Err why → without (Refused why) ≡ tried_gathered f n all
   gathered-refused why o = let q : all ≡ stopped why = sym e ∙ ap (λ t. on_listing t (made (rows_of n g.combinations))) o in rw q
 
-  pub gathered-tried : g.outcome ≡ O.Done → tried_from f n (rows_of n g.combinations) ≡ tried_gathered f n all
+  pub gathered-tried : g.outcome ≡ no_refusal → tried_from f n (rows_of n g.combinations) ≡ tried_gathered f n all
   gathered-tried o = let q : all ≡ made (rows_of n g.combinations) = sym e ∙ ap (λ t. on_listing t (made (rows_of n g.combinations))) o in rw q

@@ -1,8 +1,6 @@
 -- Document 01, module 5, Kronecker: a divisor of each value, at most 100 combinations in listing order. If 100 is reached before the last point, none is tried.
-use Rattle.std.specs.Prelude.{◌≡◌, Bool, cond, List, [], ◌∷◌, ◌++◌, map, ℕ, zero, suc, ◌≤◌, leb, ℤ, nat_abs, length, take}
-use Rattle.ratio.specs.Refusal.{ratio_of}
-use Rattle.ratio.specs.declared.Outcome.{Outcome}
-use Rattle.ratio.specs.declared.Outcome.TheVariants as O
+use Rattle.std.specs.Prelude.{◌≡◌, Bool, cond, List, [], ◌∷◌, ◌++◌, map, ℕ, zero, suc, ◌≤◌, leb, ℤ, nat_abs, length, take, Ok, Err}
+use Rattle.ratio.specs.Refusal.{ratio_of, Outcome}
 use Rattle.ratio.specs.declared.Ratio.{Ratio}
 use Rattle.ratio.specs.declared.Reason.{Reason}
 use Rattle.terms.specs.Machine.{whole_r}
@@ -35,8 +33,8 @@ pub data Gathering : Type 0 where
   made : List (List Ratio) → Gathering
 
 abbrev pub on_listing : Outcome → Gathering → Gathering
-on_listing O.Done g = g
-on_listing (O.Refused why) g = stopped why
+on_listing (Ok _) g = g
+on_listing (Err why) g = stopped why
 
 -- the number whose divisors are listed for point i
 abbrev pub number_at : List Ratio → ℕ → ℤ

@@ -1,9 +1,7 @@
 -- Document 01, module 5, Kronecker: the polynomial with given values at the first n points (`lagrange_interpolate`). What is refused on the way skips the combination.
-use Rattle.std.specs.Prelude.{◌≡◌, cond, List, [], ◌∷◌, ℕ, zero, suc, ◌<◌, eqb, pos, get_or}
-use Rattle.ratio.specs.Refusal.{ratio_of, zero_r}
+use Rattle.std.specs.Prelude.{◌≡◌, cond, List, [], ◌∷◌, ℕ, zero, suc, ◌<◌, eqb, pos, get_or, Ok, Err}
+use Rattle.ratio.specs.Refusal.{ratio_of, zero_r, Outcome}
 use Rattle.ratio.specs.Step.{neg_of, new_of}
-use Rattle.ratio.specs.declared.Outcome.{Outcome}
-use Rattle.ratio.specs.declared.Outcome.TheVariants as O
 use Rattle.ratio.specs.declared.Ratio.{Ratio}
 use Rattle.ratio.specs.declared.Reason.TheVariants.{CoeffOverflow}
 use Rattle.terms.specs.declared.Answer.{Answer}
@@ -18,8 +16,8 @@ abbrev pub skip : Answer
 skip = refused_with CoeffOverflow 0
 
 abbrev pub on_outcome : {X : Type 0} → Outcome → X → X → X
-on_outcome O.Done other k = k
-on_outcome (O.Refused why) other k = other
+on_outcome (Ok _) other k = k
+on_outcome (Err why) other k = other
 
 abbrev pub on_answer : {X : Type 0} → Answer → X → (List Ratio → X) → X
 on_answer a other k = on_outcome a.outcome other (k (terms_of a.poly))

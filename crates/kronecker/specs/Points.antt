@@ -1,9 +1,8 @@
 -- Document 01, module 5, Kronecker: the points 0, 1, -1, 2, -2, 3, -3, and the values there. A refused value ends the search, one with a denominator skips the degree.
-use Rattle.std.specs.Prelude.{Bool, true, false, ◌&&◌, List, [], ◌∷◌, ℕ, zero, suc, eqb, pos, negsuc, nat_abs, get_or}
+use Rattle.ratio.specs.declared.Reason.{Reason}
+use Rattle.std.specs.Prelude.{Bool, true, false, ◌&&◌, List, [], ◌∷◌, ℕ, zero, suc, eqb, pos, negsuc, nat_abs, get_or, Result, Ok, Err}
 use Rattle.ratio.specs.Refusal.{zero_r}
 use Rattle.ratio.specs.declared.Ratio.{Ratio}
-use Rattle.ratio.specs.declared.Step.{Step}
-use Rattle.ratio.specs.declared.Step.TheVariants.{Done, Refused}
 use Rattle.terms.specs.Machine.{whole_r}
 use Rattle.terms.specs.Answer.{value_of}
 use Rattle.kronecker.specs.declared.Values.{Values}
@@ -16,7 +15,7 @@ unfoldable pub point_of : ℕ → Ratio
 point_of i = get_or points i zero_r
 
 -- the value at point i
-abbrev pub value_at : List Ratio → ℕ → Step
+abbrev pub value_at : List Ratio → ℕ → Result Ratio Reason
 value_at f i = value_of f (point_of i)
 
 abbrev pub is_whole : Ratio → Bool
@@ -30,9 +29,9 @@ abbrev pub values_if : Bool → Values
 values_if true = Whole
 values_if false = Broken
 
-abbrev pub on_step : {X : Type 0} → Step → X → (Ratio → X) → X
-on_step (Done v) other k = k v
-on_step (Refused why) other k = other
+abbrev pub on_step : {X : Type 0} → Result Ratio Reason → X → (Ratio → X) → X
+on_step (Ok v) other k = k v
+on_step (Err why) other k = other
 
 -- the values at n points from point i on, all of them looked at
 unfoldable pub surveyed : List Ratio → ℕ → ℕ → Bool → Values

@@ -2,7 +2,7 @@
 // Nothing here tests whether a polynomial is canonical: every function is total by its own model, on any value.
 #![tactic(auto)]
 
-ghost use Rattle.std.specs.Prelude.{◌≡◌, true, false, ◌&&◌, [], ◌∷◌, ◌++◌, ◌+◌, ◌<◌, ◌≤◌, pos, length, take};
+ghost use Rattle.std.specs.Prelude.{◌≡◌, true, false, ◌&&◌, [], ◌∷◌, ◌++◌, ◌+◌, ◌<◌, ◌≤◌, pos, length, take, Err};
 ghost use Rattle.ratio.specs.Refusal.{ratio_of};
 ghost use Rattle.ratio.specs.Step.{neg_of};
 ghost use Rattle.terms.specs.Poly.{terms_of, poly_of};
@@ -15,7 +15,7 @@ ghost use Rattle.kronecker.specs.Interpolation.{skip, away_from, basis_step, bas
 ghost use Rattle.kronecker.specs.Split.{without, is_over, judged, tried_of, tried_from, tried_gathered, tried_at, most_of, try_split_of};
 
 use divisors::Found;
-use ratio::{Outcome, Ratio, Reason, Step};
+use ratio::{Ratio, Reason};
 use terms::{Answer, Poly};
 
 // What a search for a factor comes to: found, none so far, none at all, or refused.
@@ -55,7 +55,7 @@ struct Combinations {
 
 #[derive(Clone, Copy)]
 struct Gathered {
-    outcome: Outcome,
+    outcome: Result<(), Reason>,
     combinations: Combinations,
 }
 
@@ -120,7 +120,7 @@ fn survey(f: Poly, n: usize) -> Values
     let mut fine = true;
     let mut j: usize = 0;
     while j < n {
-        let Step::Done(v) = f.value_at(point(j)) else {
+        let Ok(v) = f.value_at(point(j)) else {
             return Values::Over;
         };
         fine = and(fine, is_whole(v));
@@ -133,7 +133,7 @@ fn survey(f: Poly, n: usize) -> Values
 fn value(f: Poly, j: usize) -> Ratio
     ensures { result ≡ ratio_of (value_of (terms_of f) (point_of j)) }
 {
-    let Step::Done(v) = f.value_at(point(j)) else {
+    let Ok(v) = f.value_at(point(j)) else {
         return whole(0);
     };
     v
@@ -204,10 +204,10 @@ fn grow(old: Combinations, j: usize, size: u64, marks: &[u64; 1024]) -> Combinat
 }
 
 fn no_gathering(why: Reason) -> Gathered
-    ensures { Stored result.combinations × (result.outcome ≡ Outcome.Refused why) }
+    ensures { Stored result.combinations × (result.outcome ≡ Err why) }
 {
     Gathered {
-        outcome: Outcome::Refused(why),
+        outcome: Err(why),
         combinations: nothing(),
     }
 }
@@ -235,7 +235,7 @@ fn gather(f: Poly, n: usize, budget: u64) -> Gathered
         let v = value(f, j);
         let l = divisors::integer_factors(v.num, budget);
         let o = l.outcome;
-        if let Outcome::Refused(why) = o {
+        if let Err(why) = o {
             return no_gathering(why);
         }
         let marks = l.marks;
@@ -243,7 +243,7 @@ fn gather(f: Poly, n: usize, budget: u64) -> Gathered
         j += 1;
     }
     Gathered {
-        outcome: Outcome::Done,
+        outcome: Ok(()),
         combinations: made,
     }
 }
@@ -260,7 +260,7 @@ fn skipped() -> Answer
 fn negated(r: Ratio) -> Ratio
     ensures { result ≡ ratio_of (neg_of r) }
 {
-    let Step::Done(n) = ratio::checked_neg(r) else {
+    let Ok(n) = ratio::checked_neg(r) else {
         return whole(0);
     };
     n
@@ -305,7 +305,7 @@ fn product(i: usize, n: usize) -> Answer
     while j < n {
         let a = basis_step(acc, i, j);
         let o = a.outcome;
-        if let Outcome::Refused(_) = o {
+        if let Err(_) = o {
             return skipped();
         }
         acc = a.poly;
@@ -329,11 +329,11 @@ fn basis_at(i: usize, n: usize) -> Basis
 {
     let b = product(i, n);
     let o = b.outcome;
-    if let Outcome::Refused(_) = o {
+    if let Err(_) = o {
         return no_basis();
     }
     let p = b.poly;
-    let Step::Done(d) = p.value_at(point(i)) else {
+    let Ok(d) = p.value_at(point(i)) else {
         return no_basis();
     };
     Basis {
@@ -367,7 +367,7 @@ fn part(b: Basis, y: Ratio) -> Answer
         return skipped();
     }
     let d = b.at;
-    let Step::Done(s) = Ratio::new(y.num, d.num) else {
+    let Ok(s) = Ratio::new(y.num, d.num) else {
         return skipped();
     };
     let p = b.poly;
@@ -379,7 +379,7 @@ fn add_part(acc: Poly, b: Basis, y: Ratio) -> Answer
 {
     let t = part(b, y);
     let o = t.outcome;
-    if let Outcome::Refused(_) = o {
+    if let Err(_) = o {
         return skipped();
     }
     let p = t.poly;
@@ -398,7 +398,7 @@ fn interpolate(c: Combination, n: usize, all: Parts) -> Answer
         let b = all.rows[i];
         let a = add_part(acc, b, y);
         let o = a.outcome;
-        if let Outcome::Refused(_) = o {
+        if let Err(_) = o {
             return skipped();
         }
         acc = a.poly;
@@ -457,7 +457,7 @@ fn judge(f: Poly, c: Poly) -> Split
     }
     let d = remainders::divide(f, c);
     let o = d.outcome;
-    if let Outcome::Refused(_) = o {
+    if let Err(_) = o {
         return without(Verdict::NoSplit);
     }
     let rest = d.rest;
@@ -476,7 +476,7 @@ fn try_one(f: Poly, c: Combination, n: usize, parts: Parts) -> Split
 {
     let a = interpolate(c, n, parts);
     let o = a.outcome;
-    if let Outcome::Refused(_) = o {
+    if let Err(_) = o {
         return without(Verdict::Next);
     }
     let p = a.poly;
@@ -521,8 +521,8 @@ fn try_gathered(f: Poly, n: usize, budget: u64) -> Split
     let g = gather(f, n, budget);
     let o = g.outcome;
     match o {
-        Outcome::Refused(why) => without(Verdict::Refused(why)),
-        Outcome::Done => {
+        Err(why) => without(Verdict::Refused(why)),
+        Ok(()) => {
             let all = g.combinations;
             try_all(f, all, n)
         }

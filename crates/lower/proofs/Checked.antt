@@ -1,4 +1,5 @@
 -- A run that comes to one value shows that the check answers; and once the check answers, a run that isn't refused comes to one value.
+use Rattle.std.specs.Prelude.{Ok, Err}
 use mathlib.Core.Path.{◌≡◌, refl, sym, ap, ◌∙◌}
 use mathlib.Core.Bool.{Bool, true, false, cond}
 use mathlib.Core.List.{List, [], ◌∷◌}
@@ -7,8 +8,7 @@ use native.Mathlib.Omega.{arith}
 use borrow.Author.Tests.{le-ltb, ltb-false, ne_eqb}
 use lib.Dec.{ltb}
 use lib.ListN.{length}
-use Rattle.ratio.specs.declared.Outcome.{Outcome}
-use Rattle.ratio.specs.declared.Outcome.TheVariants as O
+use Rattle.ratio.specs.Refusal.{Outcome, no_refusal}
 use Rattle.ratio.specs.declared.Reason.{Reason}
 use Rattle.ratio.specs.declared.Reason.TheVariants as R
 use Rattle.terms.specs.declared.Poly.{Poly}
@@ -96,7 +96,7 @@ then-through (stopped why) k m e = let z : ◌≡◌ {A = ℕ} 0 1 = cc in absur
 
 turn : (wrt end at next : ℕ) (n : ℕ) (ws : List (List ℕ)) (t : Token) (l m : List Poly) → n ≡ length l → Through (bounded (applied wrt t l)) (bounded_from wrt ws) m
     → ((k : ℕ) (q : List Poly) → k ≡ length q → bounded_from wrt ws q ≡ fine m → check_from end next (plainly k) ws ≡ finish end (plainly (length m)))
-    → cond (is_bad t (plainly n)) (O.Refused (R.Malformed at)) (check_from end next (after t (plainly n)) ws) ≡ finish end (plainly (length m))
+    → cond (is_bad t (plainly n)) (Err (R.Malformed at)) (check_from end next (after t (plainly n)) ws) ≡ finish end (plainly (length m))
 turn wrt end at next n ws t l m v (through q a b) f = rw (not-bad wrt t n l q v a, after_is wrt t n l q v a) (f (length q) q refl b)
 
 -- a run that isn't refused leaves as many values as the check counts
@@ -116,7 +116,7 @@ check-is wrt s m e = heights wrt (length s) 0 0 (words_of s) [] m refl e
 data One (a : Left) : Type 0 where
   one_value : (p : Poly) → a ≡ fine (p ∷ []) → One a
 
-only : (a : Left) → (alone a).outcome ≡ O.Done → One a
+only : (a : Left) → (alone a).outcome ≡ no_refusal → One a
 only (fine []) e = let z : ◌≡◌ {A = ℕ} 0 1 = cc in absurd (omega arith)
 only (fine (p ∷ [])) e = one_value p refl
 only (fine (p ∷ q ∷ l)) e = let z : ◌≡◌ {A = ℕ} 0 1 = cc in absurd (omega arith)
@@ -125,29 +125,29 @@ only (stopped why) e = let z : ◌≡◌ {A = ℕ} 0 1 = cc in absurd (omega ari
 done-by : (wrt : ℕ) (s : List ℕ) → One (bounded_from wrt (words_of s) []) → alone (bounded_from wrt (words_of s) []) ≡ lower_of wrt s
 unfolding lower_of
 done-by wrt s (one_value p e) =
-    let d : check_of s ≡ O.Done = check-is wrt s (p ∷ []) e in
+    let d : check_of s ≡ no_refusal = check-is wrt s (p ∷ []) e in
     rw (d, ← room wrt s d, e)
 
-pub answered-done : (wrt : ℕ) (s : List ℕ) → (alone (bounded_from wrt (words_of s) [])).outcome ≡ O.Done → alone (bounded_from wrt (words_of s) []) ≡ lower_of wrt s
+pub answered-done : (wrt : ℕ) (s : List ℕ) → (alone (bounded_from wrt (words_of s) [])).outcome ≡ no_refusal → alone (bounded_from wrt (words_of s) []) ≡ lower_of wrt s
 answered-done wrt s e = done-by wrt s (only (bounded_from wrt (words_of s) []) e)
 
 -- two values or more are not one
-many : (end n : ℕ) → 2 ≤ n → finish end (plainly n) ≡ O.Refused (R.Malformed end)
+many : (end n : ℕ) → 2 ≤ n → finish end (plainly n) ≡ Err (R.Malformed end)
 many end n h = rw (ne_eqb n 1 (omega arith))
 
-left_by : (s : List ℕ) (a : Left) (why : Reason) → ((m : List Poly) → a ≡ fine m → check_of s ≡ finish (length s) (plainly (length m))) → check_of s ≡ O.Done → (alone a).outcome ≡ O.Refused why → refused_with why 0 ≡ answered a
-left_by s (fine []) why f d e = let g : O.Refused (R.Malformed (length s)) ≡ O.Done = sym (f [] refl) ∙ d in let z : ◌≡◌ {A = ℕ} 0 1 = cc in absurd (omega arith)
+left_by : (s : List ℕ) (a : Left) (why : Reason) → ((m : List Poly) → a ≡ fine m → check_of s ≡ finish (length s) (plainly (length m))) → check_of s ≡ no_refusal → (alone a).outcome ≡ Err why → refused_with why 0 ≡ answered a
+left_by s (fine []) why f d e = let g : Err (R.Malformed (length s)) ≡ no_refusal = sym (f [] refl) ∙ d in let z : ◌≡◌ {A = ℕ} 0 1 = cc in absurd (omega arith)
 left_by s (fine (p ∷ [])) why f d e = let z : ◌≡◌ {A = ℕ} 0 1 = cc in absurd (omega arith)
 left_by s (fine (p ∷ q ∷ l)) why f d e =
-    let g : O.Refused (R.Malformed (length s)) ≡ O.Done = sym (f (p ∷ q ∷ l) refl ∙ many (length s) (length (p ∷ q ∷ l)) (omega arith)) ∙ d in
+    let g : Err (R.Malformed (length s)) ≡ no_refusal = sym (f (p ∷ q ∷ l) refl ∙ many (length s) (length (p ∷ q ∷ l)) (omega arith)) ∙ d in
     let z : ◌≡◌ {A = ℕ} 0 1 = cc in
     absurd (omega arith)
 left_by s (stopped w) why f d e = let z : w ≡ why = cc in ap (λ v. refused_with v 0) (sym z)
 
-refused-by : (wrt : ℕ) (s : List ℕ) (why : Reason) (o : Outcome) → check_of s ≡ o → (alone (bounded_from wrt (words_of s) [])).outcome ≡ O.Refused why → unless_refused o (refused_with why 0) ≡ unless_refused o (answered (run_from wrt (words_of s) []))
-refused-by wrt s why O.Done d e = left_by s (bounded_from wrt (words_of s) []) why (check-is wrt s) d e ∙ ap answered (room wrt s d)
-refused-by wrt s why (O.Refused w) d e = refl
+refused-by : (wrt : ℕ) (s : List ℕ) (why : Reason) (o : Outcome) → check_of s ≡ o → (alone (bounded_from wrt (words_of s) [])).outcome ≡ Err why → unless_refused o (refused_with why 0) ≡ unless_refused o (answered (run_from wrt (words_of s) []))
+refused-by wrt s why (Ok _) d e = left_by s (bounded_from wrt (words_of s) []) why (check-is wrt s) d e ∙ ap answered (room wrt s d)
+refused-by wrt s why (Err w) d e = refl
 
-pub answered-refused : (wrt : ℕ) (s : List ℕ) (why : Reason) → (alone (bounded_from wrt (words_of s) [])).outcome ≡ O.Refused why → unless_refused (check_of s) (refused_with why 0) ≡ lower_of wrt s
+pub answered-refused : (wrt : ℕ) (s : List ℕ) (why : Reason) → (alone (bounded_from wrt (words_of s) [])).outcome ≡ Err why → unless_refused (check_of s) (refused_with why 0) ≡ lower_of wrt s
 unfolding lower_of
 answered-refused wrt s why e = refused-by wrt s why (check_of s) refl e

@@ -1,4 +1,6 @@
 -- The first refusal in postfix order, said of the model: behind an answered check a run comes to one value, every word accepted, or a word is refused after the values before it.
+use Rattle.ratio.specs.declared.Ratio.{Ratio}
+use Rattle.std.specs.Prelude.{Result, Ok, Err}
 use mathlib.Core.Path.{◌≡◌, refl, sym, ap, subst, ◌∙◌}
 use mathlib.Core.Bool.{Bool, true, false, cond}
 use mathlib.Core.List.{List, [], ◌∷◌, ◌++◌, append_assoc, append-nil}
@@ -9,14 +11,10 @@ use lib.Dec.{eqb}
 use lib.Ieee.{Float}
 use lib.ListN.{length}
 use Rattle.ratio.specs.Promise.{Lowest}
-use Rattle.ratio.specs.Refusal.{number_of, status_of, ratio_of, outcome_status}
+use Rattle.ratio.specs.Refusal.{number_of, status_of, ratio_of, Outcome, no_refusal}
 use Rattle.ratio.specs.When.{GivenWhen}
-use Rattle.ratio.specs.declared.Outcome.{Outcome}
-use Rattle.ratio.specs.declared.Outcome.TheVariants as O
 use Rattle.ratio.specs.declared.Reason.{Reason}
 use Rattle.ratio.specs.declared.Reason.TheVariants as R
-use Rattle.ratio.specs.declared.Step.{Step}
-use Rattle.ratio.specs.declared.Step.TheVariants as S
 use Rattle.ratio.proofs.Answers.{lowest-tells}
 use Rattle.bridge.specs.Search.{to_ratio}
 use Rattle.bridge.proofs.Finds.{finds-both}
@@ -46,19 +44,19 @@ data Taken (wrt : ℕ) (t : Token) (l : List Poly) : Left → Type 0 where
   taken : {m : List Poly} → Accepted wrt t → Taken wrt t l (fine m)
   refused : {why : Reason} → Halts wrt t l why → Taken wrt t l (stopped why)
 
-pushed-taken : (wrt : ℕ) (t : Token) (l k : List Poly) (o : Outcome) (p : Poly) → (o ≡ O.Done → Accepted wrt t) → ((why : Reason) → o ≡ O.Refused why → Halts wrt t l why) → Taken wrt t l (pushed_by o p k)
-pushed-taken wrt t l k O.Done p f g = taken (f refl)
-pushed-taken wrt t l k (O.Refused why) p f g = refused (g why refl)
+pushed-taken : (wrt : ℕ) (t : Token) (l k : List Poly) (o : Outcome) (p : Poly) → (o ≡ no_refusal → Accepted wrt t) → ((why : Reason) → o ≡ Err why → Halts wrt t l why) → Taken wrt t l (pushed_by o p k)
+pushed-taken wrt t l k (Ok _) p f g = taken (f refl)
+pushed-taken wrt t l k (Err why) p f g = refused (g why refl)
 
 -- a fraction in lowest terms is a constant
-constant-done : (c : _) → Lowest c → (constant_of c).outcome ≡ O.Done
+constant-done : (c : _) → Lowest c → (constant_of c).outcome ≡ no_refusal
 constant-done c h = rw ((lowest-tells c).tells h)
 
-constant-taken : (wrt : ℕ) (x : Float) (l : List Poly) (s : Step) → to_ratio x ≡ s → Taken wrt (T.Const x) l (pushed (constant_by s) l)
-constant-taken wrt x l (S.Done c) e =
-    let h : Lowest c = subst (λ (s : Step). status_of s ≡ 0 → Lowest (ratio_of s)) e (finds-both x (to_ratio x) refl).1.lowest refl in
+constant-taken : (wrt : ℕ) (x : Float) (l : List Poly) (s : Result Ratio Reason) → to_ratio x ≡ s → Taken wrt (T.Const x) l (pushed (constant_by s) l)
+constant-taken wrt x l (Ok c) e =
+    let h : Lowest c = subst (λ (s : Result Ratio Reason). status_of s ≡ 0 → Lowest (ratio_of s)) e (finds-both x (to_ratio x) refl).1.lowest refl in
     pushed-taken wrt (T.Const x) l l (constant_of c).outcome _ (λ d. rw e) (λ why d. let z : ◌≡◌ {A = ℕ} 0 1 = cc (constant-done c h) in absurd (omega arith))
-constant-taken wrt x l (S.Refused why) e = refused (no_fraction e)
+constant-taken wrt x l (Err why) e = refused (no_fraction e)
 
 variable-taken : (wrt i : ℕ) (l : List Poly) → Taken wrt (T.Var i) l (applied wrt (T.Var i) l)
 variable-taken wrt i l = go (eqb i wrt) refl
@@ -126,7 +124,7 @@ good true p u e q = let z : ◌≡◌ {A = ℕ} 0 1 = cc in absurd (omega arith)
 good false true u e q = let z : ◌≡◌ {A = ℕ} 0 1 = cc in absurd (omega arith)
 good false false u e q = (refl, e)
 
-one_left : (o : Bool) (h : Height) (end : ℕ) → cond o (room_of h) (O.Refused (R.Malformed end)) ≡ O.Done → o ≡ true
+one_left : (o : Bool) (h : Height) (end : ℕ) → cond o (room_of h) (Err (R.Malformed end)) ≡ no_refusal → o ≡ true
 one_left true h end e = refl
 one_left false h end e = let z : ◌≡◌ {A = ℕ} 0 1 = cc in absurd (omega arith)
 
@@ -137,10 +135,10 @@ module _ (wrt end : ℕ) where
   ended seen (p ∷ q ∷ l) n a = absurd (omega arith)
 
   abbrev Goes : List (List ℕ) → Type 0
-  Goes ws = (at : ℕ) (h : Height) (l : List Poly) (seen : List (List ℕ)) → check_from end at h ws ≡ O.Done → h.past ≡ false → h.values ≡ length l → AllAccepted wrt seen → Match l (meant_all seen []) → Ends wrt (seen ++ ws) (run_from wrt ws l)
+  Goes ws = (at : ℕ) (h : Height) (l : List Poly) (seen : List (List ℕ)) → check_from end at h ws ≡ no_refusal → h.past ≡ false → h.values ≡ length l → AllAccepted wrt seen → Match l (meant_all seen []) → Ends wrt (seen ++ ws) (run_from wrt ws l)
 
   module _ (at : ℕ) (h : Height) (l : List Poly) (seen : List (List ℕ)) (w : List ℕ) (ws : List (List ℕ)) (go : Goes ws) (p : h.past ≡ false) (d : h.deep ≡ false) (v : h.values ≡ length l)
-      (e : check_from end at (after (token_of w) h) ws ≡ O.Done) (a : AllAccepted wrt seen) (m : Match l (meant_all seen [])) where
+      (e : check_from end at (after (token_of w) h) ws ≡ no_refusal) (a : AllAccepted wrt seen) (m : Match l (meant_all seen [])) where
     -- the values that a word leaves are those that it means, as many as the check counts
     next : (r : Left) → Taken wrt (token_of w) l r → Fits r (meant (token_of w) (meant_all seen [])) → Sized (length l - takes (token_of w) + 1) r → Ends wrt (seen ++ (w ∷ ws)) (and_then r (run_from wrt ws))
     next (fine k) (taken t) (held g) (sized n) =
@@ -153,7 +151,7 @@ module _ (wrt end : ℕ) where
   goes : (ws : List (List ℕ)) → Goes ws
   unfolding check_from run_from
   goes [] at h l seen e p v a m =
-      let f : cond (eqb h.values 1) (room_of h) (O.Refused (R.Malformed end)) ≡ O.Done = rw p at e in
+      let f : cond (eqb h.values 1) (room_of h) (Err (R.Malformed end)) ≡ no_refusal = rw p at e in
       ended seen l (sym v ∙ eqb-true h.values 1 (one_left (eqb h.values 1) h end f)) a
   goes (w ∷ ws) at h l seen e p v a m =
       let f = chosen (is_bad (token_of w) h) (R.Malformed at) _ e in
@@ -165,14 +163,14 @@ module _ (wrt end : ℕ) where
 -- ---- a check is refused with 5 or with 4
 
 data Few : Outcome → Type 0 where
-  fine-check : Few O.Done
-  too_long : Few (O.Refused R.TooLong)
-  malformed : (at : ℕ) → Few (O.Refused (R.Malformed at))
+  fine-check : Few no_refusal
+  too_long : Few (Err R.TooLong)
+  malformed : (at : ℕ) → Few (Err (R.Malformed at))
 
 room-few : (h : Height) → Few (room_of h)
 room-few h = go h.deep
   where
-    go : (b : Bool) → Few (cond b (O.Refused R.TooLong) O.Done)
+    go : (b : Bool) → Few (cond b (Err R.TooLong) no_refusal)
     go true = too_long
     go false = fine-check
 
@@ -189,35 +187,35 @@ check-all : (s : List ℕ) → Few (check_of s)
 unfolding check_of
 check-all s = check-few (length s) 0 bare (words_of s)
 
-few-numbers : (o : Outcome) (why : Reason) → Few o → o ≡ O.Refused why → (number_of why ≡ 5 → ⊥) → (number_of why ≡ 4 → ⊥) → ⊥
-few-numbers O.Done why f e b l = let z : ◌≡◌ {A = ℕ} 0 1 = cc in omega arith
-few-numbers (O.Refused R.NotPolynomial) why f e b l = elim f [ ]
-few-numbers (O.Refused R.CoeffOverflow) why f e b l = elim f [ ]
-few-numbers (O.Refused R.DivByZero) why f e b l = elim f [ ]
-few-numbers (O.Refused R.BadInput) why f e b l = elim f [ ]
-few-numbers (O.Refused R.Budget) why f e b l = elim f [ ]
-few-numbers (O.Refused R.TooDeep) why f e b l = elim f [ ]
-few-numbers (O.Refused R.NoRoom) why f e b l = elim f [ ]
-few-numbers (O.Refused R.TooLong) why f e b l = let z : R.TooLong ≡ why = cc in l (ap number_of (sym z))
-few-numbers (O.Refused (R.Malformed at)) why f e b l = let z : R.Malformed at ≡ why = cc in b (ap number_of (sym z))
+few-numbers : (o : Outcome) (why : Reason) → Few o → o ≡ Err why → (number_of why ≡ 5 → ⊥) → (number_of why ≡ 4 → ⊥) → ⊥
+few-numbers (Ok _) why f e b l = let z : ◌≡◌ {A = ℕ} 0 1 = cc in omega arith
+few-numbers (Err R.NotPolynomial) why f e b l = elim f [ ]
+few-numbers (Err R.CoeffOverflow) why f e b l = elim f [ ]
+few-numbers (Err R.DivByZero) why f e b l = elim f [ ]
+few-numbers (Err R.BadInput) why f e b l = elim f [ ]
+few-numbers (Err R.Budget) why f e b l = elim f [ ]
+few-numbers (Err R.TooDeep) why f e b l = elim f [ ]
+few-numbers (Err R.NoRoom) why f e b l = elim f [ ]
+few-numbers (Err R.TooLong) why f e b l = let z : R.TooLong ≡ why = cc in l (ap number_of (sym z))
+few-numbers (Err (R.Malformed at)) why f e b l = let z : R.Malformed at ≡ why = cc in b (ap number_of (sym z))
 
 -- ---- the whole text
 
-number-kept : (ws : List (List ℕ)) (wrt : ℕ) (r : Left) → Ends wrt ws r → Comes wrt ws (outcome_status (answered r).outcome)
+number-kept : (ws : List (List ℕ)) (wrt : ℕ) (r : Left) → Ends wrt ws r → Comes wrt ws (status_of (answered r).outcome)
 number-kept ws wrt (fine []) h = elim h [ ]
 number-kept ws wrt (fine (p ∷ (q ∷ l))) h = elim h [ ]
 number-kept ws wrt (fine (p ∷ [])) (one_value a) = through a refl
 number-kept ws wrt (stopped why) (halted s) = P.stopped why s refl
 
-refusals-by : (wrt : ℕ) (s : List ℕ) (o : Outcome) → check_of s ≡ o → (o ≡ O.Done → Comes wrt (words_of s) (outcome_status (answered (run_from wrt (words_of s) [])).outcome))
-    → GivenWhen (outcome_status o ≡ 5) (outcome_status o ≡ 4) ⊥ (Comes wrt (words_of s)) (outcome_status (unless_refused o (answered (run_from wrt (words_of s) []))).outcome)
-refusals-by wrt s O.Done e c = record {
+refusals-by : (wrt : ℕ) (s : List ℕ) (o : Outcome) → check_of s ≡ o → (o ≡ no_refusal → Comes wrt (words_of s) (status_of (answered (run_from wrt (words_of s) [])).outcome))
+    → GivenWhen (status_of o ≡ 5) (status_of o ≡ 4) ⊥ (Comes wrt (words_of s)) (status_of (unless_refused o (answered (run_from wrt (words_of s) []))).outcome)
+refusals-by wrt s (Ok _) e c = record {
   five = λ b. absurd (omega arith);
   four = λ b l. absurd (omega arith);
   three = λ b l z. absurd z;
   behind = λ b l z. c refl;
 }
-refusals-by wrt s (O.Refused why) e c = record {
+refusals-by wrt s (Err why) e c = record {
   five = λ b. b;
   four = λ b l. l;
   three = λ b l z. absurd z;

@@ -1,4 +1,6 @@
 -- The promise, said of the model: value by value the stack is what the textbook reads.
+use Rattle.ratio.specs.declared.Ratio.{Ratio}
+use Rattle.std.specs.Prelude.{Result, Ok, Err}
 use mathlib.Core.Path.{◌≡◌, refl, sym, ap, ap₂, ◌∙◌}
 use mathlib.Core.Bool.{Bool, true, false, cond}
 use mathlib.Core.List.{List, [], ◌∷◌}
@@ -11,13 +13,9 @@ use Rattle.algebra.proofs.Rational.{ℚ-ring}
 use Rattle.algebra.proofs.Poly.{neg_p, Poly-ring}
 use Rattle.algebra.proofs.Lists.{ℚP, ◌+P◌, ◌*P◌, poly, equal-poly, poly-equal, equal-trans, poly-sum, poly-negated, poly-product, poly-power}
 use Rattle.ratio.specs.Promise.{rat}
-use Rattle.ratio.specs.Refusal.{ratio_of, outcome_status}
-use Rattle.ratio.specs.declared.Outcome.{Outcome}
-use Rattle.ratio.specs.declared.Outcome.TheVariants as O
+use Rattle.ratio.specs.Refusal.{ratio_of, Outcome, status_of}
 use Rattle.ratio.specs.declared.Reason.{Reason}
 use Rattle.ratio.specs.declared.Reason.TheVariants.{NotPolynomial, BadInput}
-use Rattle.ratio.specs.declared.Step.{Step}
-use Rattle.ratio.specs.declared.Step.TheVariants as S
 use Rattle.bridge.specs.Search.{to_ratio}
 use Rattle.terms.specs.declared.Poly.{Poly}
 use Rattle.terms.specs.declared.Answer.{Answer}
@@ -65,16 +63,16 @@ pub data Fits : Left → List (List Rat) → Type 0 where
   held : {l : List Poly} {m : List (List Rat)} → Match l m → Fits (fine l) m
   over : {why : Reason} {m : List (List Rat)} → Fits (stopped why) m
 
-pushed-by : (o : Outcome) (p : Poly) (q : List Rat) (l : List Poly) {m : List (List Rat)} → (outcome_status o ≡ 0 → Equal (reading p) q) → door_of p ≡ Open → Match l m → Fits (pushed_by o p l) (q ∷ m)
-pushed-by O.Done p q l e d h = held (some p q (e refl) d h)
-pushed-by (O.Refused why) p q l e d h = over
+pushed-by : (o : Outcome) (p : Poly) (q : List Rat) (l : List Poly) {m : List (List Rat)} → (status_of o ≡ 0 → Equal (reading p) q) → door_of p ≡ Open → Match l m → Fits (pushed_by o p l) (q ∷ m)
+pushed-by (Ok _) p q l e d h = held (some p q (e refl) d h)
+pushed-by (Err why) p q l e d h = over
 
 pushed-fits : (r : Answer) {q : List Rat} {l : List Poly} {m : List (List Rat)} → Gives q r → Match l m → Fits (pushed r l) (q ∷ m)
 pushed-fits r {q} {l} g h = pushed-by r.outcome r.poly q l g.is g.canonical h
 
-constant-fits : (s : Step) → Gives (rat (ratio_of s) ∷ []) (constant_by s)
-constant-fits (S.Done c) = constant-gives c
-constant-fits (S.Refused why) = refused-gives _ why 0
+constant-fits : (s : Result Ratio Reason) → Gives (rat (ratio_of s) ∷ []) (constant_by s)
+constant-fits (Ok c) = constant-gives c
+constant-fits (Err why) = refused-gives _ why 0
 
 variable-fits : (t : Bool) → Gives variable (cond t (monomial_of 1) (refused_with NotPolynomial 0))
 variable-fits true = gives_as (monomial_of 1) power-one (monomial-gives 1)
@@ -132,8 +130,8 @@ answered-gives (fine (p ∷ l)) m (held (some _ q e d h)) = record { is = λ z. 
 answered-gives (stopped why) m h = refused-gives _ why 0
 
 unless-gives : (o : Outcome) (q : List Rat) (r : Answer) → Gives q r → Gives q (unless_refused o r)
-unless-gives O.Done q r g = g
-unless-gives (O.Refused why) q r g = refused-gives q why 0
+unless-gives (Ok _) q r g = g
+unless-gives (Err why) q r g = refused-gives q why 0
 
 -- an answered text gives the polynomial that it is
 pub lowers : (wrt : ℕ) (s : List ℕ) → Gives (expressed s) (lower_of wrt s)

@@ -1,4 +1,6 @@
 -- The values of an array of 16 from a place on, as a stack: what one token's work leaves of it.
+use Rattle.ratio.specs.Refusal.{no_refusal}
+use Rattle.std.specs.Prelude.{Ok, Err}
 use mathlib.Core.Path.{◌≡◌, refl, sym, ap, ◌∙◌}
 use mathlib.Core.List.{List, [], ◌∷◌}
 use Prim.Native.Nat.{ℕ, zero, suc, ◌+◌, ◌-◌, ◌≤◌, ◌<◌}
@@ -8,7 +10,6 @@ use borrow.Author.Tests.{lt-ltb, le-ltb}
 use lib.Ieee.{Float}
 use lib.ListN.{length, drop, get_or, set, length-drop, length-set, drop_of_length-le}
 use lib.Seq.{drop-cons}
-use Rattle.ratio.specs.declared.Outcome.TheVariants as O
 use Rattle.ratio.specs.declared.Reason.{Reason}
 use Rattle.ratio.specs.declared.Reason.TheVariants.{TooLong, BadInput}
 use Rattle.terms.specs.declared.Poly.{Poly}
@@ -95,13 +96,13 @@ full : (l : List Poly) (n : ℕ) (p : Poly) → length l ≡ 16 → n ≡ 0 → 
 full l n p h z = rw (lt-ltb 16 (length (p ∷ drop n l)) (omega (arith, length-drop n l)))
 
 module _ (wrt : ℕ) (w : Work) (l : List Poly) (free : ℕ) (r : Answer) (h : length l ≡ 16) (m : Made wrt w l free r) where
-  pub made-stop : (why : Reason) → r.outcome ≡ O.Refused why → bounded (worked wrt w (drop free l)) ≡ stopped why
+  pub made-stop : (why : Reason) → r.outcome ≡ Err why → bounded (worked wrt w (drop free l)) ≡ stopped why
   made-stop why e = ap bounded (sym m.is ∙ ap (λ o. pushed_by o r.poly (drop (free + takes_of w) l)) e)
 
-  made-fine : r.outcome ≡ O.Done → bounded (worked wrt w (drop free l)) ≡ bounded (fine (r.poly ∷ drop (free + takes_of w) l))
+  made-fine : r.outcome ≡ no_refusal → bounded (worked wrt w (drop free l)) ≡ bounded (fine (r.poly ∷ drop (free + takes_of w) l))
   made-fine e = ap bounded (sym m.is ∙ ap (λ o. pushed_by o r.poly (drop (free + takes_of w) l)) e)
 
-  module _ (n : ℕ) (k : n ≡ free + takes_of w) (e : r.outcome ≡ O.Done) where
+  module _ (n : ℕ) (k : n ≡ free + takes_of w) (e : r.outcome ≡ no_refusal) where
     pub made-full : n ≡ 0 → bounded (worked wrt w (drop free l)) ≡ stopped TooLong
     made-full z = made-fine e ∙ full l (free + takes_of w) r.poly h (sym k ∙ z)
 

@@ -1,4 +1,6 @@
 -- What work does to the values, the top one first; and that a token does what the work that it asks for does.
+use Rattle.ratio.specs.declared.Ratio.{Ratio}
+use Rattle.std.specs.Prelude.{Result, Ok, Err}
 use mathlib.Core.Path.{◌≡◌, refl, sym, ap, ap₂, ◌∙◌}
 use mathlib.Core.Bool.{Bool, true, false, cond}
 use mathlib.Core.List.{List}
@@ -8,8 +10,6 @@ use lib.Dec.{eqb}
 use lib.Ieee.{Float}
 use Rattle.ratio.specs.declared.Reason.{Reason}
 use Rattle.ratio.specs.declared.Reason.TheVariants.{NotPolynomial}
-use Rattle.ratio.specs.declared.Step.{Step}
-use Rattle.ratio.specs.declared.Step.TheVariants as S
 use Rattle.bridge.specs.Search.{to_ratio}
 use Rattle.terms.specs.declared.Poly.{Poly}
 use Rattle.terms.specs.declared.Answer.{Answer}
@@ -67,9 +67,9 @@ worked-applied wrt T.Malformed l = refl
 
 -- ---- every value is canonical
 
-constant-by-open : (s : Step) → door_of (constant_by s).poly ≡ Open
-constant-by-open (S.Done c) = (constant-gives c).canonical
-constant-by-open (S.Refused why) = open-nil
+constant-by-open : (s : Result Ratio Reason) → door_of (constant_by s).poly ≡ Open
+constant-by-open (Ok c) = (constant-gives c).canonical
+constant-by-open (Err why) = open-nil
 
 pub constant-open : (x : Float) → door_of (constant_from x).poly ≡ Open
 constant-open x = constant-by-open (to_ratio x)

@@ -1,14 +1,12 @@
 -- Demand 2 for expressions (document 01, module 7): the polynomial that the textbook reads in a postfix text, which words are accepted, and which refusal is given exactly when.
-use Rattle.std.specs.Prelude.{◌≡◌, List, [], ◌∷◌, ◌++◌, ℕ, Float}
+use Rattle.std.specs.Prelude.{◌≡◌, List, [], ◌∷◌, ◌++◌, ℕ, Float, Err}
 use Rattle.algebra.specs.Rational.{Rat}
 use Rattle.algebra.specs.Polynomial.{Equal, sum, negated, product, power}
 use Rattle.ratio.specs.Promise.{rat}
-use Rattle.ratio.specs.Refusal.{number_of, status_of, ratio_of, outcome_status}
+use Rattle.ratio.specs.Refusal.{number_of, status_of, ratio_of}
 use Rattle.ratio.specs.When.{GivenWhen}
-use Rattle.ratio.specs.declared.Outcome.TheVariants as O
 use Rattle.ratio.specs.declared.Reason.{Reason}
 use Rattle.ratio.specs.declared.Reason.TheVariants.{NotPolynomial}
-use Rattle.ratio.specs.declared.Step.TheVariants as S
 use Rattle.bridge.specs.Search.{to_ratio}
 use Rattle.terms.specs.declared.Answer.{Answer}
 use Rattle.terms.specs.declared.Poly.{Poly}
@@ -89,14 +87,14 @@ pub data Match : List Poly → List (List Rat) → Type 0 where
 
 -- why a token is refused after these values, the last one first
 pub data Halts (wrt : ℕ) : Token → List Poly → Reason → Type 0 where
-  no_fraction : {x : Float} {l : List Poly} {why : Reason} → to_ratio x ≡ S.Refused why → Halts wrt (T.Const x) l why
+  no_fraction : {x : Float} {l : List Poly} {why : Reason} → to_ratio x ≡ Err why → Halts wrt (T.Const x) l why
   other-variable : {i : ℕ} {l : List Poly} → (i ≡ wrt → ⊥) → Halts wrt (T.Var i) l NotPolynomial
-  in_sum : {a b : Poly} {l : List Poly} {why : Reason} → (add_of a b).outcome ≡ O.Refused why → Halts wrt T.Add (b ∷ a ∷ l) why
-  in-difference : {a b : Poly} {l : List Poly} {why : Reason} → (sub_of a b).outcome ≡ O.Refused why → Halts wrt T.Sub (b ∷ a ∷ l) why
-  in-product : {a b : Poly} {l : List Poly} {why : Reason} → (mul_of a b).outcome ≡ O.Refused why → Halts wrt T.Mul (b ∷ a ∷ l) why
-  in-negative : {a : Poly} {l : List Poly} {why : Reason} → (neg_of a).outcome ≡ O.Refused why → Halts wrt T.Neg (a ∷ l) why
+  in_sum : {a b : Poly} {l : List Poly} {why : Reason} → (add_of a b).outcome ≡ Err why → Halts wrt T.Add (b ∷ a ∷ l) why
+  in-difference : {a b : Poly} {l : List Poly} {why : Reason} → (sub_of a b).outcome ≡ Err why → Halts wrt T.Sub (b ∷ a ∷ l) why
+  in-product : {a b : Poly} {l : List Poly} {why : Reason} → (mul_of a b).outcome ≡ Err why → Halts wrt T.Mul (b ∷ a ∷ l) why
+  in-negative : {a : Poly} {l : List Poly} {why : Reason} → (neg_of a).outcome ≡ Err why → Halts wrt T.Neg (a ∷ l) why
   no-exponent : {x : Float} {l : List Poly} → exponent_of x ≡ W.Nothing → Halts wrt (T.Pow x) l NotPolynomial
-  in-power : {x : Float} {n : ℕ} {a : Poly} {l : List Poly} {why : Reason} → exponent_of x ≡ W.Is n → (pow_of a n).outcome ≡ O.Refused why → Halts wrt (T.Pow x) (a ∷ l) why
+  in-power : {x : Float} {n : ℕ} {a : Poly} {l : List Poly} {why : Reason} → exponent_of x ≡ W.Is n → (pow_of a n).outcome ≡ Err why → Halts wrt (T.Pow x) (a ∷ l) why
   other-operator : {l : List Poly} → Halts wrt T.Other l NotPolynomial
 
 -- the words before one come to these values, and that one is refused
@@ -120,4 +118,4 @@ pub data Comes (wrt : ℕ) (ws : List (List ℕ)) (status : ℕ) : Type 0 where
 pub record Lowers (wrt : ℕ) (s : List ℕ) (r : Answer) : Type 0 where
   pub gives : Gives (expressed s) r
   -- 5 for what is no expression, then 4 for over 16 values, then the first refusal in postfix order
-  pub refusals : GivenWhen (outcome_status (check_of s) ≡ 5) (outcome_status (check_of s) ≡ 4) ⊥ (Comes wrt (words_of s)) (outcome_status r.outcome)
+  pub refusals : GivenWhen (status_of (check_of s) ≡ 5) (status_of (check_of s) ≡ 4) ⊥ (Comes wrt (words_of s)) (status_of r.outcome)

@@ -1,7 +1,6 @@
 -- Document 01, module 7: `from_lowered`: 5 and 4 as the tokens show them, then the first refusal in postfix order; the value that is left is the answer.
-use Rattle.std.specs.Prelude.{List, [], ◌∷◌, ℕ}
-use Rattle.ratio.specs.declared.Outcome.{Outcome}
-use Rattle.ratio.specs.declared.Outcome.TheVariants as O
+use Rattle.std.specs.Prelude.{List, [], ◌∷◌, ℕ, Ok, Err}
+use Rattle.ratio.specs.Refusal.{Outcome}
 use Rattle.ratio.specs.declared.Reason.TheVariants.{BadInput}
 use Rattle.terms.specs.declared.Poly.{Poly}
 use Rattle.terms.specs.declared.Answer.{Answer}
@@ -27,8 +26,8 @@ answered (fine (p ∷ l)) = done_with p 0
 answered (stopped why) = refused_with why 0
 
 abbrev pub unless_refused : Outcome → Answer → Answer
-unless_refused O.Done r = r
-unless_refused (O.Refused why) r = refused_with why 0
+unless_refused (Ok _) r = r
+unless_refused (Err why) r = refused_with why 0
 
 unfoldable pub lower_of : ℕ → List ℕ → Answer
 lower_of wrt s = unless_refused (check_of s) (answered (run_from wrt (words_of s) []))

@@ -1,11 +1,9 @@
 -- Document 01, module 7: what each token does to the values, the top one first. Each operation is module 3's.
-use Rattle.std.specs.Prelude.{cond, List, [], ◌∷◌, ℕ, eqb, Float}
-use Rattle.ratio.specs.declared.Outcome.{Outcome}
-use Rattle.ratio.specs.declared.Outcome.TheVariants as O
+use Rattle.ratio.specs.declared.Ratio.{Ratio}
+use Rattle.std.specs.Prelude.{cond, List, [], ◌∷◌, ℕ, eqb, Float, Result, Ok, Err}
+use Rattle.ratio.specs.Refusal.{Outcome}
 use Rattle.ratio.specs.declared.Reason.{Reason}
 use Rattle.ratio.specs.declared.Reason.TheVariants.{NotPolynomial, BadInput}
-use Rattle.ratio.specs.declared.Step.{Step}
-use Rattle.ratio.specs.declared.Step.TheVariants as S
 use Rattle.bridge.specs.Search.{to_ratio}
 use Rattle.terms.specs.declared.Poly.{Poly}
 use Rattle.terms.specs.declared.Answer.{Answer}
@@ -26,9 +24,9 @@ pub data Left : Type 0 where
   fine : List Poly → Left
   stopped : Reason → Left
 
-abbrev pub constant_by : Step → Answer
-constant_by (S.Done c) = constant_of c
-constant_by (S.Refused why) = refused_with why 0
+abbrev pub constant_by : Result Ratio Reason → Answer
+constant_by (Ok c) = constant_of c
+constant_by (Err why) = refused_with why 0
 
 abbrev pub constant_from : Float → Answer
 constant_from x = constant_by (to_ratio x)
@@ -47,8 +45,8 @@ changed U.Neg a = neg_of a
 changed (U.Pow n) a = pow_of a n
 
 abbrev pub pushed_by : Outcome → Poly → List Poly → Left
-pushed_by O.Done p l = fine (p ∷ l)
-pushed_by (O.Refused why) p l = stopped why
+pushed_by (Ok _) p l = fine (p ∷ l)
+pushed_by (Err why) p l = stopped why
 
 abbrev pub pushed : Answer → List Poly → Left
 pushed r l = pushed_by r.outcome r.poly l

@@ -14,7 +14,7 @@ ghost use Rattle.lower.specs.Promise.{Lowers};
 ghost use Rattle.lower.specs.Run.{unless_refused, lower_of};
 ghost use Rattle.lower.specs.Room.{alone, bounded_from};
 
-use ratio::{Outcome, Ratio, Reason, Step};
+use ratio::{Ratio, Reason};
 use terms::{Answer, Poly};
 use tokens::Token;
 
@@ -82,8 +82,8 @@ fn constant(x: f64) -> Answer
     ensures { result ≡ constant_from x }
 {
     match bridge::f64_to_ratio(x) {
-        Step::Done(c) => terms::done(level(c), 0),
-        Step::Refused(why) => terms::refused(why, 0),
+        Ok(c) => terms::done(level(c), 0),
+        Err(why) => terms::refused(why, 0),
     }
 }
 
@@ -196,7 +196,7 @@ fn run(text: &[u8], wrt: u64) -> Answer
             Work::Stop(why) => terms::refused(why, 0),
         };
         let o = r.outcome;
-        if let Outcome::Refused(why) = o {
+        if let Err(why) = o {
             return terms::refused(why, 0);
         }
         if left == 0 {
@@ -215,12 +215,12 @@ fn run(text: &[u8], wrt: u64) -> Answer
 }
 
 // What the tokens show comes before a refusal on the way.
-fn refusal(o: Outcome, why: Reason) -> Answer
+fn refusal(o: Result<(), Reason>, why: Reason) -> Answer
     ensures { result ≡ unless_refused o (refused_with why 0) }
 {
     match o {
-        Outcome::Done => terms::refused(why, 0),
-        Outcome::Refused(first) => terms::refused(first, 0),
+        Ok(()) => terms::refused(why, 0),
+        Err(first) => terms::refused(first, 0),
     }
 }
 
@@ -233,7 +233,7 @@ pub fn from_lowered(text: &[u8], wrt: u64) -> Answer
     let r = run(text, wrt);
     let o = r.outcome;
     match o {
-        Outcome::Done => r,
-        Outcome::Refused(why) => refusal(tokens::check(text), why),
+        Ok(()) => r,
+        Err(why) => refusal(tokens::check(text), why),
     }
 }

@@ -1,4 +1,5 @@
 -- Behind the door: what an operation hands back where the door is open, and where it isn't.
+use Rattle.std.specs.Prelude.{Result, Err}
 use mathlib.Core.Path.{◌≡◌, refl, sym, ap, ◌∙◌}
 use mathlib.Core.Logic.{inl, inr}
 use mathlib.Core.Bool.{Bool, true, false}
@@ -11,8 +12,6 @@ use types.Run.{OneOf}
 use lib.ListN.{length, drop}
 use Rattle.ratio.specs.declared.Ratio.{Ratio}
 use Rattle.ratio.specs.declared.Reason.{Reason}
-use Rattle.ratio.specs.declared.Step.{Step}
-use Rattle.ratio.specs.declared.Step.TheVariants as S
 use Rattle.terms.specs.declared.Poly.{Poly}
 use Rattle.terms.specs.declared.Answer.{Answer}
 use Rattle.terms.specs.Poly.{terms_of, trim}
@@ -61,8 +60,8 @@ module _ (d m : Gate) (e : d ≡ m) (s : Shut d) (w : Reason) (f : w ≡ reason_
   pub shut-answer : (r a : Answer) → a ≡ refused_with w 0 → a ≡ enter m r
   shut-answer = shut-entered (λ why. refused_with why 0)
 
-  pub shut-step : (r : Step) → S.Refused w ≡ enter_step m r
-  shut-step r = shut-entered S.Refused r (S.Refused w) refl
+  pub shut-step : (r : Result Ratio Reason) → Err w ≡ enter_step m r
+  shut-step r = shut-entered Err r (Err w) refl
 
   pub shut-degree : (l : List Ratio) → E.Refused w ≡ entered E.Refused m (exponent l)
   shut-degree l = shut-entered E.Refused (exponent l) (E.Refused w) refl
@@ -95,8 +94,8 @@ module _ (d m : Gate) (e : d ≡ m) (o : d ≡ Open) where
   pub open-answer : (r a : Answer) → a ≡ r → a ≡ enter m r
   open-answer = open-entered (λ why. refused_with why 0)
 
-  pub open_step : (r a : Step) → a ≡ r → a ≡ enter_step m r
-  open_step = open-entered S.Refused
+  pub open_step : (r a : Result Ratio Reason) → a ≡ r → a ≡ enter_step m r
+  open_step = open-entered Err
 
   pub open-nothing : (l : List Ratio) → length l ≡ 0 → E.Zero ≡ entered E.Refused m (exponent l)
   open-nothing l h = open-entered E.Refused (exponent l) E.Zero (degree-nothing l h)

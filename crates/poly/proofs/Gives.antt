@@ -1,4 +1,5 @@
 -- The promises, said of the models: an answered operation is the textbook's, and what is handed back is canonical.
+use Rattle.std.specs.Prelude.{Result, Ok, Err}
 use mathlib.Core.Path.{◌≡◌, refl, sym, ap, subst, ◌∙◌}
 use mathlib.Core.Bool.{Bool, true, false}
 use mathlib.Core.List.{List, [], ◌∷◌}
@@ -21,15 +22,11 @@ use Rattle.algebra.proofs.Degree.{HasDeg, deg-unique, deg-not-nil}
 use Rattle.algebra.proofs.Lists.{poly, ◌*P◌, poly-at, poly-empty, poly-equal, equal-poly, poly-product, poly-one, poly-shifted, equal-refl}
 use Rattle.algebra.proofs.ListWords.{zero-to, zero-from, degree-to, degree-from}
 use Rattle.ratio.specs.Promise.{rat, Lowest}
-use Rattle.ratio.specs.Refusal.{number_of, status_of, ratio_of, outcome_status, zero_r}
+use Rattle.ratio.specs.Refusal.{number_of, status_of, ratio_of, zero_r, Outcome, no_refusal}
 use Rattle.ratio.specs.Step.{is_lowest}
-use Rattle.ratio.specs.declared.Outcome.{Outcome}
-use Rattle.ratio.specs.declared.Outcome.TheVariants as O
 use Rattle.ratio.specs.declared.Ratio.{Ratio}
 use Rattle.ratio.specs.declared.Reason.{Reason}
 use Rattle.ratio.specs.declared.Reason.TheVariants.{NotPolynomial, CoeffOverflow, DivByZero, TooLong, BadInput, Malformed, Budget, TooDeep, NoRoom}
-use Rattle.ratio.specs.declared.Step.{Step}
-use Rattle.ratio.specs.declared.Step.TheVariants as S
 use Rattle.ratio.proofs.Answers.{lowest-tells}
 use Rattle.ratio.proofs.Fractions.{and-true}
 use Rattle.ratio.proofs.Steps.{value, zero-lowest, one-lowest}
@@ -78,9 +75,9 @@ number-some NoRoom = omega arith
 pub refused-gives : (x : List Rat) (why : Reason) (k : ℕ) → Gives x (refused_with why k)
 refused-gives x why k = record { is = λ e. absurd (omega (arith, number-some why)); canonical = open-nil }
 
-pub outcome-done : (o : Outcome) → outcome_status o ≡ 0 → o ≡ O.Done
-outcome-done O.Done e = refl
-outcome-done (O.Refused why) e = absurd (omega (arith, number-some why))
+pub outcome-done : (o : Outcome) → status_of o ≡ 0 → o ≡ no_refusal
+outcome-done (Ok _) e = refl
+outcome-done (Err why) e = absurd (omega (arith, number-some why))
 
 -- ---- an answer, a run of steps, the door before it
 
@@ -167,9 +164,9 @@ product-gives a b = record { is = λ s. (product-hands a b (outcome-done (produc
 pub mul-gives : (a b : Poly) → Gives (product (reading a) (reading b)) (mul_of a b)
 mul-gives a b = two-gives a _ _ (door_of b) (λ s e. product-gives (terms_of a) (terms_of b))
 
-pub on-done : (o : Outcome) (x : List Rat) (next : Answer) (k : ℕ) → (o ≡ O.Done → Gives x next) → Gives x (on_done o next k)
-on-done O.Done x next k h = h refl
-on-done (O.Refused why) x next k h = refused-gives x why k
+pub on-done : (o : Outcome) (x : List Rat) (next : Answer) (k : ℕ) → (o ≡ no_refusal → Gives x next) → Gives x (on_done o next k)
+on-done (Ok _) x next k h = h refl
+on-done (Err why) x next k h = refused-gives x why k
 
 -- one factor more
 times_more : (p q a : List Rat) (i : ℕ) → Equal p (power a i) → Equal q (product p a) → Equal q (power a (suc i))
@@ -189,7 +186,7 @@ powered-gives a (suc n) i acc k e h =
     let s : suc i + n ≡ i + suc n = omega arith in
     on-done r.outcome _ _ (k + r.steps) (λ d.
     subst (λ m. Gives (power (rats a) m) (powered a n r.poly (k + r.steps))) s
-    (powered-gives a n (suc i) r.poly (k + r.steps) (times_more (reading acc) (reading r.poly) (rats a) i e (g.is (ap outcome_status d))) g.canonical))
+    (powered-gives a n (suc i) r.poly (k + r.steps) (times_more (reading acc) (reading r.poly) (rats a) i e (g.is (ap status_of d))) g.canonical))
 
 one-canonical : Canonical (whole_r (pos 1) ∷ [])
 one-canonical = record { lowest = cons-lowest (whole_r (pos 1)) [] one-lowest none-lowest; trimmed = trim-nothing (whole_r (pos 1) ∷ []) 0 refl refl }
@@ -251,14 +248,14 @@ parts-gives ns ds = enter-gives (parts_door ns ds) _ _ (λ e.
 
 -- ---- the value, the degree, the leading coefficient
 
-refused-value : (x : Rat) (why : Reason) → GivesValue x (S.Refused why)
+refused-value : (x : Rat) (why : Reason) → GivesValue x (Err why)
 refused-value x why = record { is = λ e. absurd (omega (arith, number-some why)); lowest = λ e. absurd (omega (arith, number-some why)) }
 
-pub step_gives : (x : Rat) (s : Step) → ((r : Ratio) → s ≡ S.Done r → Same (rat r) x × Lowest r) → GivesValue x s
-step_gives x (S.Done r) h = record { is = λ e. (h r refl).0; lowest = λ e. (h r refl).1 }
-step_gives x (S.Refused why) h = refused-value x why
+pub step_gives : (x : Rat) (s : Result Ratio Reason) → ((r : Ratio) → s ≡ Ok r → Same (rat r) x × Lowest r) → GivesValue x s
+step_gives x (Ok r) h = record { is = λ e. (h r refl).0; lowest = λ e. (h r refl).1 }
+step_gives x (Err why) h = refused-value x why
 
-pub enter-value : (d : Gate) (x : Rat) (s : Step) → GivesValue x s → GivesValue x (enter_step d s)
+pub enter-value : (d : Gate) (x : Rat) (s : Result Ratio Reason) → GivesValue x s → GivesValue x (enter_step d s)
 enter-value Open x s h = h
 enter-value TooMany x s h = refused-value x TooLong
 enter-value Bad x s h = refused-value x BadInput
@@ -315,7 +312,7 @@ lead-same (a ∷ l) n c d =
     let e : length (a ∷ l) - 1 ≡ n = omega arith in
     same-val _ _ (ap (λ m. value (get_or (a ∷ l) m zero_r)) e ∙ sym (poly_r-at (a ∷ l) n) ∙ poly-at (rats (a ∷ l)) n)
 
-enter-lead : (d : Gate) (x : Rat) (r : Ratio) → (d ≡ Open → Same (rat r) x) → status_of (enter_step d (S.Done r)) ≡ 0 → Same (rat (ratio_of (enter_step d (S.Done r)))) x
+enter-lead : (d : Gate) (x : Rat) (r : Ratio) → (d ≡ Open → Same (rat r) x) → status_of (enter_step d (Ok r)) ≡ 0 → Same (rat (ratio_of (enter_step d (Ok r)))) x
 enter-lead Open x r h e = h refl
 enter-lead TooMany x r h e = absurd (omega arith)
 enter-lead Bad x r h e = absurd (omega arith)
@@ -328,11 +325,11 @@ lead-tells p = record { is = λ n d. enter-lead (door_of p) (coeff (reading p) n
 pub with-gives : {x : List Rat} (r m : Answer) → Gives x m → r ≡ m → (r ≡ m) × Gives x r
 with-gives {x} r m h e = (e, subst (λ (t : Answer). Gives x t) (sym e) h)
 
-pub with_value : {x : Rat} (r m : Step) → GivesValue x m → r ≡ m → (r ≡ m) × GivesValue x r
-with_value {x} r m h e = (e, subst (λ (t : Step). GivesValue x t) (sym e) h)
+pub with_value : {x : Rat} (r m : Result Ratio Reason) → GivesValue x m → r ≡ m → (r ≡ m) × GivesValue x r
+with_value {x} r m h e = (e, subst (λ (t : Result Ratio Reason). GivesValue x t) (sym e) h)
 
 pub with-degree : (p : Poly) (r : Exponent) → r ≡ degree_of p → (r ≡ degree_of p) × TellsDegree p r
 with-degree p r e = (e, subst (λ (t : Exponent). TellsDegree p t) (sym e) (degree-tells p))
 
-pub with_lead : (p : Poly) (r : Step) → r ≡ lead_of p → (r ≡ lead_of p) × TellsLead p r
-with_lead p r e = (e, subst (λ (t : Step). TellsLead p t) (sym e) (lead-tells p))
+pub with_lead : (p : Poly) (r : Result Ratio Reason) → r ≡ lead_of p → (r ≡ lead_of p) × TellsLead p r
+with_lead p r e = (e, subst (λ (t : Result Ratio Reason). TellsLead p t) (sym e) (lead-tells p))

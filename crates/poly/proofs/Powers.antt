@@ -1,4 +1,6 @@
 -- The door of a power, and the loop of products.
+use Rattle.ratio.specs.Refusal.{no_refusal}
+use Rattle.std.specs.Prelude.{Ok, Err}
 use mathlib.Core.Path.{◌≡◌, ap}
 use mathlib.Core.List.{List, [], ◌∷◌}
 use Prim.Native.Nat.{ℕ, suc, ◌+◌, ◌-◌, ◌*◌, ◌<◌, ◌≤◌}
@@ -9,7 +11,6 @@ use lib.Dec.{ltb}
 use lib.IntN.{pos}
 use lib.ListN.{length}
 use Rattle.ratio.specs.declared.Ratio.{Ratio}
-use Rattle.ratio.specs.declared.Outcome.TheVariants as O
 use Rattle.ratio.specs.declared.Reason.{Reason}
 use Rattle.terms.specs.declared.Poly.{Poly}
 use Rattle.terms.specs.declared.Answer.{Answer}
@@ -62,13 +63,13 @@ module _ (a : List Ratio) (n : ℕ) where
   raised-none = let s : n - 0 ≡ n = omega arith in record { whole = rw s }
 
   module _ (i steps : ℕ) (acc : Poly) (h : i < n) (s : Raised i steps acc) (r : Answer) (e : r ≡ product_of (terms_of acc) a) where
-    pub raised-more : r.outcome ≡ O.Done → Raised (i + 1) (steps + r.steps) r.poly
+    pub raised-more : r.outcome ≡ no_refusal → Raised (i + 1) (steps + r.steps) r.poly
     unfolding powered
     raised-more d =
         let k : n - i ≡ suc (n - (i + 1)) = omega arith in
         record { whole = rw (k, ← e, d) at s.whole }
 
-    pub raised-over : (why : Reason) → r.outcome ≡ O.Refused why → refused_with why (steps + r.steps) ≡ power_from a n
+    pub raised-over : (why : Reason) → r.outcome ≡ Err why → refused_with why (steps + r.steps) ≡ power_from a n
     unfolding powered
     raised-over why d =
         let k : n - i ≡ suc (n - (i + 1)) = omega arith in

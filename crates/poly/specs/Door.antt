@@ -1,12 +1,10 @@
 -- Document 01, module 3 and "order": what is canonical, and what is refused before any work: 5, then 4 where the inputs alone show it.
-use Rattle.std.specs.Prelude.{Bool, true, false, not, ◌&&◌, List, [], ◌∷◌, ltb, eqb, pos, nat_abs, length, drop}
+use Rattle.std.specs.Prelude.{Bool, true, false, not, ◌&&◌, List, [], ◌∷◌, ltb, eqb, pos, nat_abs, length, drop, Result, Err}
 use Rattle.std.specs.Int.Signed.{lt_z}
 use Rattle.ratio.specs.Step.{is_lowest, is_nil}
 use Rattle.ratio.specs.declared.Ratio.{Ratio}
 use Rattle.ratio.specs.declared.Reason.{Reason}
 use Rattle.ratio.specs.declared.Reason.TheVariants.{TooLong, BadInput}
-use Rattle.ratio.specs.declared.Step.{Step}
-use Rattle.ratio.specs.declared.Step.TheVariants as S
 use Rattle.terms.specs.declared.Poly.{Poly}
 use Rattle.terms.specs.declared.Answer.{Answer}
 use Rattle.terms.specs.Poly.{terms_of, trim}
@@ -73,5 +71,5 @@ entered refuse Bad r = refuse BadInput
 abbrev pub enter : Gate → Answer → Answer
 enter d r = entered (λ why. refused_with why 0) d r
 
-abbrev pub enter_step : Gate → Step → Step
-enter_step d s = entered S.Refused d s
+abbrev pub enter_step : Gate → Result Ratio Reason → Result Ratio Reason
+enter_step d s = entered Err d s

@@ -1,11 +1,8 @@
 -- Document 01, module 3: what each public operation answers: the door first, then the work.
-use Rattle.std.specs.Prelude.{List, [], ◌∷◌, ◌++◌, ℕ, zero, suc, ◌+◌, ◌-◌, ◌*◌, ltb, pos, length, get_or, replicate}
-use Rattle.ratio.specs.Refusal.{zero_r}
-use Rattle.ratio.specs.declared.Outcome.{Outcome}
-use Rattle.ratio.specs.declared.Outcome.TheVariants as O
+use Rattle.ratio.specs.declared.Reason.{Reason}
+use Rattle.std.specs.Prelude.{List, [], ◌∷◌, ◌++◌, ℕ, zero, suc, ◌+◌, ◌-◌, ◌*◌, ltb, pos, length, get_or, replicate, Result, Ok, Err}
+use Rattle.ratio.specs.Refusal.{zero_r, Outcome}
 use Rattle.ratio.specs.declared.Ratio.{Ratio}
-use Rattle.ratio.specs.declared.Step.{Step}
-use Rattle.ratio.specs.declared.Step.TheVariants as S
 use Rattle.terms.specs.declared.Poly.{Poly}
 use Rattle.terms.specs.declared.Answer.{Answer}
 use Rattle.terms.specs.Poly.{terms_of, poly_of, trim}
@@ -41,8 +38,8 @@ empty (a ∷ l) = T.No
 abbrev pub is_zero_of : Poly → Truth
 is_zero_of p = entered T.Refused (door_of p) (empty (terms_of p))
 
-abbrev pub lead_of : Poly → Step
-lead_of p = enter_step (door_of p) (S.Done (get_or (terms_of p) (length (terms_of p) - 1) zero_r))
+abbrev pub lead_of : Poly → Result Ratio Reason
+lead_of p = enter_step (door_of p) (Ok (get_or (terms_of p) (length (terms_of p) - 1) zero_r))
 
 abbrev pub add_of : Poly → Poly → Answer
 add_of a b = enter (both (door_of a) (door_of b)) (answer_of (zipped plain plus (terms_of a) (terms_of b) 0))
@@ -62,12 +59,12 @@ neg_of p = enter (door_of p) (answer_of (negated_of (terms_of p)))
 abbrev pub diff_of : Poly → Answer
 diff_of p = enter (door_of p) (answer_of (derived plain (terms_of p) 0))
 
-abbrev pub eval_of : Poly → Ratio → Step
+abbrev pub eval_of : Poly → Ratio → Result Ratio Reason
 eval_of p x = enter_step (both (door_of p) (door_of_ratio x)) (value_of (terms_of p) x)
 
 abbrev pub on_done : Outcome → Answer → ℕ → Answer
-on_done O.Done next k = next
-on_done (O.Refused why) next k = refused_with why k
+on_done (Ok _) next k = next
+on_done (Err why) next k = refused_with why k
 
 -- acc times aⁿ, one product at a time
 unfoldable pub powered : List Ratio → ℕ → Poly → ℕ → Answer

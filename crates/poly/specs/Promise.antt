@@ -1,11 +1,12 @@
 -- Demand 2 for polynomials: an answered operation is the textbook's, and what is handed back is canonical.
-use Rattle.std.specs.Prelude.{◌≡◌, List, [], ◌∷◌, ℕ}
+use Rattle.ratio.specs.declared.Reason.{Reason}
+use Rattle.ratio.specs.declared.Ratio.{Ratio}
+use Rattle.std.specs.Prelude.{◌≡◌, List, [], ◌∷◌, ℕ, Result}
 use Rattle.algebra.specs.Rational.{Rat, Same, zero_q, one_q}
 use Rattle.algebra.specs.Polynomial.{Equal, coeff}
 use Rattle.algebra.specs.Textbook.{HasDegree, IsZero}
-use Rattle.ratio.specs.Refusal.{status_of, ratio_of, outcome_status}
+use Rattle.ratio.specs.Refusal.{status_of, ratio_of}
 use Rattle.ratio.specs.Promise.{rat, Lowest}
-use Rattle.ratio.specs.declared.Step.{Step}
 use Rattle.terms.specs.declared.Poly.{Poly}
 use Rattle.terms.specs.declared.Answer.{Answer}
 use Rattle.terms.specs.Poly.{terms_of}
@@ -27,11 +28,11 @@ variable = zero_q ∷ one_q ∷ []
 
 -- an answered operation gives the polynomial x; an answer, a refused one too, is canonical
 pub record Gives (x : List Rat) (r : Answer) : Type 0 where
-  pub is : outcome_status r.outcome ≡ 0 → Equal (reading r.poly) x
+  pub is : status_of r.outcome ≡ 0 → Equal (reading r.poly) x
   pub canonical : door_of r.poly ≡ Open
 
 -- an answered evaluation is the value, in lowest terms
-pub record GivesValue (x : Rat) (s : Step) : Type 0 where
+pub record GivesValue (x : Rat) (s : Result Ratio Reason) : Type 0 where
   pub is : status_of s ≡ 0 → Same (rat (ratio_of s)) x
   pub lowest : status_of s ≡ 0 → Lowest (ratio_of s)
 
@@ -46,5 +47,5 @@ pub record TellsZero (p : Poly) (t : Truth) : Type 0 where
   pub no : t ≡ T.No → IsZero (reading p) → ⊥
 
 -- the coefficient that leads
-pub record TellsLead (p : Poly) (s : Step) : Type 0 where
+pub record TellsLead (p : Poly) (s : Result Ratio Reason) : Type 0 where
   pub is : (n : ℕ) → HasDegree (reading p) n → status_of s ≡ 0 → Same (rat (ratio_of s)) (coeff (reading p) n)

@@ -13,7 +13,7 @@ ghost use Rattle.poly.specs.Parts.{paired, parts_lowest, parts_door, parts_of};
 ghost use Rattle.poly.specs.Promise.{reading, variable, Gives, GivesValue, TellsDegree, TellsZero, TellsLead};
 ghost use Rattle.poly.specs.Operations.{constant_of, monomial_of, degree_of, is_zero_of, lead_of, add_of, sub_of, mul_of, scale_of, neg_of, diff_of, eval_of, power_door, power_from, pow_of};
 
-use ratio::{Outcome, Ratio, Reason, Step};
+use ratio::{Ratio, Reason};
 use terms::{Answer, Poly};
 
 // Whether an input may come in: over 32 coefficients is 4, what isn't canonical is 5.
@@ -208,7 +208,7 @@ pub fn is_zero(p: Poly) -> Truth
 }
 
 // The leading coefficient; 0 of zero.
-pub fn leading_coeff(p: Poly) -> Step
+pub fn leading_coeff(p: Poly) -> Result<Ratio, Reason>
     ensures is { result ≡ lead_of p }
     ensures promise { TellsLead p result }
 {
@@ -216,12 +216,12 @@ pub fn leading_coeff(p: Poly) -> Step
     if let Gate::Open = d {
         let n = p.length();
         if n == 0 {
-            Step::Done(Ratio { num: 0, den: 1 })
+            Ok(Ratio { num: 0, den: 1 })
         } else {
-            Step::Done(p.coeffs[n - 1])
+            Ok(p.coeffs[n - 1])
         }
     } else {
-        Step::Refused(reason(d))
+        Err(reason(d))
     }
 }
 
@@ -300,7 +300,7 @@ pub fn diff(p: Poly) -> Answer
 }
 
 // The value at x; one power of x beyond the last coefficient is taken, so that it may refuse needlessly.
-pub fn eval(p: Poly, x: Ratio) -> Step
+pub fn eval(p: Poly, x: Ratio) -> Result<Ratio, Reason>
     ensures is { result ≡ eval_of p x }
     ensures promise { GivesValue (value (reading p) (rat x)) result }
 {
@@ -308,7 +308,7 @@ pub fn eval(p: Poly, x: Ratio) -> Step
     if let Gate::Open = d {
         p.value_at(x)
     } else {
-        Step::Refused(reason(d))
+        Err(reason(d))
     }
 }
 
@@ -338,7 +338,7 @@ fn pow_terms(p: Poly, n: usize) -> Answer
         let r = acc.times(p);
         steps += r.steps;
         let o = r.outcome;
-        if let Outcome::Refused(why) = o {
+        if let Err(why) = o {
             return terms::refused(why, steps);
         }
         acc = r.poly;

@@ -1,4 +1,7 @@
 -- The promises of the models: when each is answered, and which rational the answer is.
+use Rattle.std.specs.declared.cmp.Ordering.TheVariants.{Less, Equal, Greater}
+use Rattle.std.specs.declared.cmp.Ordering.{Ordering}
+use Rattle.std.specs.Prelude.{Result, Ok}
 use mathlib.Core.Path.{◌≡◌, refl, sym, ap, ap₂, subst, ◌∙◌}
 use mathlib.Core.Bool.{Bool, true, false, not}
 use Prim.Native.Nat.{ℕ, ◌∣◌}
@@ -9,19 +12,17 @@ use lib.IntN.{ℤ, pos, negsuc, neg_ℤ, nat_abs, ◌+ℤ◌, ◌-ℤ◌, ◌*�
 use lib.Signed.{lt_z, ◌<ℤ◌}
 use Rattle.algebra.specs.Rational.{Rat, Same, add_q, sub_q, mul_q, neg_q, over}
 use Rattle.algebra.proofs.Rational.{same-trans}
-use Rattle.algebra.proofs.WholeOrder.{Three, less, same, more, compareℤ, lt-true, lt-false}
-use Rattle.ratio.specs.Range.{limit, Within, within}
-use Rattle.ratio.specs.Refusal.{number_of, status_of, ratio_of, order_status}
+use Rattle.algebra.proofs.WholeOrder.{Three, less, same, more, compareℤ, lt-false}
+use Rattle.ratio.specs.Range.{limit, Within, within, need}
+use Rattle.ratio.specs.Refusal.{number_of, status_of, ratio_of}
 use Rattle.ratio.specs.Gcd.{gcd_of}
-use Rattle.ratio.specs.Step.{is_nil, is_fraction, need, need_order, lowest, facing, reduced, pick_order, order_of, new_of, add_of, sub_of, mul_of, neg_of, inv_of, cmp_of, is_lowest}
+use Rattle.ratio.specs.Step.{is_nil, is_fraction, lowest, facing, reduced, new_of, add_of, sub_of, mul_of, neg_of, inv_of, cmp_of, is_lowest}
 use Rattle.ratio.specs.Promise.{rat, Fraction, Lowest, SumFits, AddFits, SubFits, MulFits, InvFits, Answers, Orders, Tells}
 use Rattle.ratio.specs.declared.Ratio.{Ratio}
 use Rattle.ratio.specs.declared.Reason.{Reason}
 use Rattle.ratio.specs.declared.Reason.TheVariants.{NotPolynomial, CoeffOverflow, DivByZero, TooLong, BadInput, Malformed, Budget, TooDeep, NoRoom}
-use Rattle.ratio.specs.declared.Step.{Step}
-use Rattle.ratio.specs.declared.Step.TheVariants.{Done}
-use Rattle.ratio.specs.declared.Order.{Order}
-use Rattle.ratio.specs.declared.Order.TheVariants.{Less, Equal, Greater}
+use Rattle.std.specs.Ordering.{MatchOrdering, int_cmp}
+use Rattle.std.specs.Cmp.{int_cmp_is}
 use Rattle.ratio.proofs.Words.{pos-neg}
 use Rattle.ratio.proofs.Euclid.{is-gcd}
 use Rattle.ratio.proofs.Fractions.{and-true, fraction-of, fraction-is, nil-some, some-nil, neg-fraction, inv-fraction, product-fraction}
@@ -41,7 +42,7 @@ some_number Budget e = omega arith
 some_number TooDeep e = omega arith
 some_number NoRoom e = omega arith
 
-pub passed : (t : Bool) (why : Reason) (s : Step) → status_of (need t why s) ≡ 0 → (t ≡ true) × (status_of s ≡ 0)
+pub passed : {X : Type 0} (t : Bool) (why : Reason) (s : Result X Reason) → status_of (need t why s) ≡ 0 → (t ≡ true) × (status_of s ≡ 0)
 passed true why s e = (refl, e)
 passed false why s e = absurd (some_number why e)
 
@@ -52,12 +53,12 @@ test : (z : ℤ) → Within z → within z ≡ true
 test z h = le-leb (nat_abs z) limit h
 
 -- the promise of a step that answers r where `ok` holds
-made : {ok : Type 0} {x : Rat} (s : Step) (r : Ratio) → (ok → s ≡ Done r) → (status_of s ≡ 0 → ok) → (ok → Same (rat r) x) → (ok → Lowest r) → Answers ok x s
+made : {ok : Type 0} {x : Rat} (s : Result Ratio Reason) (r : Ratio) → (ok → s ≡ Ok r) → (status_of s ≡ 0 → ok) → (ok → Same (rat r) x) → (ok → Lowest r) → Answers ok x s
 made {ok} {x} s r yes-it only is low = record {
   answered = λ o. ap status_of (yes-it o);
   only = only;
-  is = λ e. subst (λ (t : Step). Same (rat (ratio_of t)) x) (sym (yes-it (only e))) (is (only e));
-  lowest = λ e. subst (λ (t : Step). Lowest (ratio_of t)) (sym (yes-it (only e))) (low (only e));
+  is = λ e. subst (λ (t : Result Ratio Reason). Same (rat (ratio_of t)) x) (sym (yes-it (only e))) (is (only e));
+  lowest = λ e. subst (λ (t : Result Ratio Reason). Lowest (ratio_of t)) (sym (yes-it (only e))) (low (only e));
 }
 
 -- ---- a sum, a difference
@@ -80,7 +81,7 @@ module _ (a b : Ratio) (n : ℤ) where
         lower = fits (a.den *ℤ b.den) d.0;
       }
 
-  sum-yes : SumFits a b n → need (is_fraction a) BadInput (need (is_fraction b) BadInput (reduced (a.num *ℤ b.den) (b.num *ℤ a.den) n (a.den *ℤ b.den))) ≡ Done (lowest n (a.den *ℤ b.den))
+  sum-yes : SumFits a b n → need (is_fraction a) BadInput (need (is_fraction b) BadInput (reduced (a.num *ℤ b.den) (b.num *ℤ a.den) n (a.den *ℤ b.den))) ≡ Ok (lowest n (a.den *ℤ b.den))
   sum-yes o = rw (fraction-is a o.a-fraction, fraction-is b o.b-fraction, test (a.num *ℤ b.den) o.left, test (b.num *ℤ a.den) o.right, test n o.upper, test (a.den *ℤ b.den) o.lower)
 
   sum-fraction : SumFits a b n → Fraction (record { num = n; den = a.den *ℤ b.den })
@@ -172,70 +173,43 @@ new-answers n d =
 
 -- ---- the order
 
-ordered : (t : Bool) (why : Reason) (o : Order) → order_status (need_order t why o) ≡ 0 → (t ≡ true) × (order_status o ≡ 0)
-ordered true why o e = (refl, e)
-ordered false why o e = absurd (some_number why e)
-
-picked : (t u : Bool) → order_status (pick_order t u) ≡ 0
-picked true u = refl
-picked false true = refl
-picked false false = refl
-
-picked-less : (t u : Bool) → pick_order t u ≡ Less → t ≡ true
-picked-less true u e = refl
-picked-less false true e = absurd (let z : ◌≡◌ {A = ℕ} 0 1 = cc in omega arith)
-picked-less false false e = absurd (let z : ◌≡◌ {A = ℕ} 0 1 = cc in omega arith)
-
-picked_more : (t u : Bool) → pick_order t u ≡ Greater → u ≡ true
-picked_more true u e = absurd (let z : ◌≡◌ {A = ℕ} 0 1 = cc in omega arith)
-picked_more false true e = refl
-picked_more false false e = absurd (let z : ◌≡◌ {A = ℕ} 0 1 = cc in omega arith)
-
-picked_same : (t u : Bool) → pick_order t u ≡ Equal → (t ≡ false) × (u ≡ false)
-picked_same true u e = absurd (let z : ◌≡◌ {A = ℕ} 0 1 = cc in omega arith)
-picked_same false true e = absurd (let z : ◌≡◌ {A = ℕ} 0 1 = cc in omega arith)
-picked_same false false e = (refl, refl)
-
-neither : (x y : ℤ) → lt_z x y ≡ false → lt_z y x ≡ false → x ≡ y
-neither x y p q = go (compareℤ x y)
+ordered : (x y : ℤ) → MatchOrdering (int_cmp x y) (x <ℤ y) (x ≡ y) (y <ℤ x)
+ordered x y = go (compareℤ x y)
   where
-    go : Three (x <ℤ y) (x ≡ y) (y <ℤ x) → x ≡ y
-    go (less h) = absurd (lt-false x y p h)
-    go (same e) = e
-    go (more h) = absurd (lt-false y x q h)
+    the : (o : Ordering) → MatchOrdering o (x <ℤ y) (x ≡ y) (y <ℤ x) → MatchOrdering (int_cmp x y) (x <ℤ y) (x ≡ y) (y <ℤ x)
+    the o h = subst (λ (t : Ordering). MatchOrdering t (x <ℤ y) (x ≡ y) (y <ℤ x)) (int_cmp_is x y o h) h
+
+    go : Three (x <ℤ y) (x ≡ y) (y <ℤ x) → MatchOrdering (int_cmp x y) (x <ℤ y) (x ≡ y) (y <ℤ x)
+    go (less h) = the Less h
+    go (same e) = the Equal e
+    go (more h) = the Greater h
+
+ok-is : {o u : Ordering} → ◌≡◌ {A = Result Ordering Reason} (Ok o) (Ok u) → o ≡ u
+ok-is e = cc
 
 -- the model's left cross product is the textbook's
 crossed : (a b : Ratio) → Fraction a → Fraction b → facing a.num a.den *ℤ pos (nat_abs b.den) ≡ (rat a).num *ℤ pos (rat b).den
 crossed a b fa fb = ap₂ (λ (z : ℤ) (k : ℕ). z *ℤ pos k) (sym (num-over a.num a.den fa.den-some)) (sym (den-over b.num b.den fb.den-some))
 
-cmp-only : (a b : Ratio) → order_status (cmp_of a b) ≡ 0 → Fraction a × Fraction b
+cmp-only : (a b : Ratio) → status_of (cmp_of a b) ≡ 0 → Fraction a × Fraction b
 unfolding cmp_of
 cmp-only a b e =
-    let p = ordered (is_fraction a) BadInput _ e in
-    let q = ordered (is_fraction b) BadInput _ p.1 in
+    let p = passed (is_fraction a) BadInput _ e in
+    let q = passed (is_fraction b) BadInput _ p.1 in
     (fraction-of a p.0, fraction-of b q.0)
 
 -- for two fractions the model is the order of the textbook's cross products
-pub cmp-is : (a b : Ratio) → Fraction a → Fraction b → cmp_of a b ≡ order_of ((rat a).num *ℤ pos (rat b).den) ((rat b).num *ℤ pos (rat a).den)
+pub cmp-is : (a b : Ratio) → Fraction a → Fraction b → cmp_of a b ≡ Ok (int_cmp ((rat a).num *ℤ pos (rat b).den) ((rat b).num *ℤ pos (rat a).den))
 unfolding cmp_of
-cmp-is a b fa fb = rw (fraction-is a fa, fraction-is b fb) (ap₂ order_of (crossed a b fa fb) (crossed b a fb fa))
-
-order-less : (x y : ℤ) → order_of x y ≡ Less → x <ℤ y
-order-less x y e = lt-true x y (picked-less (lt_z x y) (lt_z y x) e)
-
-order-more : (x y : ℤ) → order_of x y ≡ Greater → y <ℤ x
-order-more x y e = lt-true y x (picked_more (lt_z x y) (lt_z y x) e)
-
-order_same : (x y : ℤ) → order_of x y ≡ Equal → x ≡ y
-order_same x y e = let p = picked_same (lt_z x y) (lt_z y x) e in neither x y p.0 p.1
+cmp-is a b fa fb = rw (fraction-is a fa, fraction-is b fb) (ap Ok (ap₂ int_cmp (crossed a b fa fb) (crossed b a fb fa)))
 
 pub cmp-orders : (a b : Ratio) → Orders a b (cmp_of a b)
 cmp-orders a b = record {
-  answered = λ fa fb. ap order_status (cmp-is a b fa fb) ∙ picked (lt_z x y) (lt_z y x);
+  answered = λ fa fb. ap status_of (cmp-is a b fa fb);
   only = cmp-only a b;
-  less = λ e. order-less x y (model e refl);
-  equal = λ e. order_same x y (model e refl);
-  greater = λ e. order-more x y (model e refl);
+  less = λ e. model Less e;
+  equal = λ e. model Equal e;
+  greater = λ e. model Greater e;
 }
   where
     x : ℤ
@@ -244,8 +218,11 @@ cmp-orders a b = record {
     y : ℤ
     y = (rat b).num *ℤ pos (rat a).den
 
-    model : {o : Order} → cmp_of a b ≡ o → order_status o ≡ 0 → order_of x y ≡ o
-    model e s = let f = cmp-only a b (ap order_status e ∙ s) in sym (cmp-is a b f.0 f.1) ∙ e
+    model : (o : Ordering) → cmp_of a b ≡ Ok o → MatchOrdering o (x <ℤ y) (x ≡ y) (y <ℤ x)
+    model o e =
+        let f = cmp-only a b (ap status_of e) in
+        let k : int_cmp x y ≡ o = ok-is (sym (cmp-is a b f.0 f.1) ∙ e) in
+        subst (λ (t : Ordering). MatchOrdering t (x <ℤ y) (x ≡ y) (y <ℤ x)) k (ordered x y)
 
 -- ---- the test of lowest terms
 
@@ -276,32 +253,3 @@ lowest-tells r = record {
       let g = is-gcd (nat_abs r.num) (nat_abs r.den) in
       rw (fraction-is r l.fraction, not-below r.den l.above, eq-eqb (gcd_of (nat_abs r.num) (nat_abs r.den)) 1 (l.coprime _ g.divides-a g.divides-b));
 }
-
--- ---- a result that is the model's has the model's promise
-
-along : {ok : Type 0} {x : Rat} (s m : Step) → s ≡ m → Answers ok x m → Answers ok x s
-along {ok} {x} s m e h = subst (λ (t : Step). Answers ok x t) (sym e) h
-
-pub add-both : (a b : Ratio) (s : Step) → s ≡ add_of a b → (s ≡ add_of a b) × Answers (AddFits a b) (add_q (rat a) (rat b)) s
-add-both a b s e = (e, along s (add_of a b) e (add-answers a b))
-
-pub sub-both : (a b : Ratio) (s : Step) → s ≡ sub_of a b → (s ≡ sub_of a b) × Answers (SubFits a b) (sub_q (rat a) (rat b)) s
-sub-both a b s e = (e, along s (sub_of a b) e (sub-answers a b))
-
-pub mul-both : (a b : Ratio) (s : Step) → s ≡ mul_of a b → (s ≡ mul_of a b) × Answers (MulFits a b) (mul_q (rat a) (rat b)) s
-mul-both a b s e = (e, along s (mul_of a b) e (mul-answers a b))
-
-pub neg-both : (a : Ratio) (s : Step) → s ≡ neg_of a → (s ≡ neg_of a) × Answers (Fraction a) (neg_q (rat a)) s
-neg-both a s e = (e, along s (neg_of a) e (neg-answers a))
-
-pub inv-both : (a : Ratio) (s : Step) → s ≡ inv_of a → (s ≡ inv_of a) × Answers (InvFits a) (over a.den a.num) s
-inv-both a s e = (e, along s (inv_of a) e (inv-answers a))
-
-pub new-both : (n d : ℤ) (s : Step) → s ≡ new_of n d → (s ≡ new_of n d) × Answers (Fraction (record { num = n; den = d })) (over n d) s
-new-both n d s e = (e, along s (new_of n d) e (new-answers n d))
-
-pub cmp-both : (a b : Ratio) (o : Order) → o ≡ cmp_of a b → (o ≡ cmp_of a b) × Orders a b o
-cmp-both a b o e = (e, subst (λ (t : Order). Orders a b t) (sym e) (cmp-orders a b))
-
-pub lowest-both : (r : Ratio) (t : Bool) → t ≡ is_lowest r → (t ≡ is_lowest r) × Tells (Lowest r) t
-lowest-both r t e = (e, subst (λ (u : Bool). Tells (Lowest r) u) (sym e) (lowest-tells r))

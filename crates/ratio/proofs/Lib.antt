@@ -1,12 +1,9 @@
 pub mod Words
-pub mod Halves
 pub mod Euclid
 pub mod Binary
-pub mod Checked
 pub mod Fractions
+pub mod Auto
 pub mod Models
-pub mod Short
-pub mod Compared
 pub mod Quotient
 pub mod Lowest
 pub mod Answers

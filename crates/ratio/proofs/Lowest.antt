@@ -20,7 +20,7 @@ use Rattle.ratio.specs.Step.{signed, differ, facing, lowest}
 use Rattle.ratio.specs.Promise.{rat, Fraction, Lowest}
 use Rattle.ratio.proofs.Words.{pos-neg, abs-signed, size_above}
 use Rattle.ratio.proofs.Euclid.{is-gcd, gcd-above}
-use Rattle.ratio.proofs.Compared.{signed_mul}
+use Rattle.ratio.proofs.Words.{signed_mul}
 
 -- ---- the numerator and the denominator of a fraction of whole numbers
 

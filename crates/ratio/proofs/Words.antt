@@ -1,11 +1,11 @@
 -- Laws of signed words: what a test, a negation, a cast and a copy leave, said of the whole number itself.
 use mathlib.Core.Path.{◌≡◌, refl, sym, ap, ◌∙◌}
 use mathlib.Core.Bool.{Bool, true, false, not, beq}
-use Prim.Native.Nat.{ℕ, zero, suc, ◌+◌, ◌-◌, ◌<◌, ◌≤◌, ◌^◌, zero-le}
+use Prim.Native.Nat.{ℕ, zero, suc, ◌+◌, ◌-◌, ◌*◌, ◌<◌, ◌≤◌, ◌^◌, zero-le}
 use native.Mathlib.Omega.{arith}
 use borrow.Author.Tests.{lt-ltb, le-ltb, ltb-true, le-leb, lt-leb, eq-eqb, ne_eqb}
 use lib.Dec.{T, eqb}
-use lib.IntN.{ℤ, pos, negsuc, neg_ℤ, nat_abs, ◌-ℤ◌}
+use lib.IntN.{ℤ, pos, negsuc, neg_ℤ, nat_abs, ◌-ℤ◌, ◌*ℤ◌}
 use lib.Signed.{lt_z, non_neg}
 use mir.Syntax.{w64}
 use mir.Val.{SFits, Fits, of_z, to_z}
@@ -36,24 +36,6 @@ differ-is true true = refl
 differ-is true false = refl
 differ-is false true = refl
 differ-is false false = refl
-
-pub beq-true : (t u : Bool) → beq t u ≡ true → t ≡ u
-beq-true true true e = refl
-beq-true true false e = sym e
-beq-true false true e = e
-beq-true false false e = refl
-
-pub beq-false : (t u : Bool) → beq t u ≡ false → t ≡ u → ⊥
-beq-false true true e q = let z : ◌≡◌ {A = ℕ} 0 1 = cc in omega arith
-beq-false true false e q = let z : ◌≡◌ {A = ℕ} 0 1 = cc in omega arith
-beq-false false true e q = let z : ◌≡◌ {A = ℕ} 0 1 = cc in omega arith
-beq-false false false e q = let z : ◌≡◌ {A = ℕ} 0 1 = cc in omega arith
-
-pub beq-not : (t u : Bool) → not (beq t u) ≡ true → not t ≡ u
-beq-not true true e = e
-beq-not true false e = refl
-beq-not false true e = refl
-beq-not false false e = sym e
 
 -- ---- numbers within the range are read back from their bits
 
@@ -110,15 +92,8 @@ size_above (pos zero) h = absurd (h refl)
 size_above (pos (suc n)) h = omega arith
 size_above (negsuc n) h = omega arith
 
-pub least_size : (x : ℤ) → SFits w64 x → of_z w64 x ≡ least → least ≡ nat_abs x
-least_size x f e = sym (least-abs x f e)
-
 pub negated : (x : ℤ) → SFits w64 x → (of_z w64 x ≡ least → ⊥) → SFits w64 (pos 0 -ℤ to_z w64 (of_z w64 x))
 negated x f ne = neg-fits x (not_least x f ne)
-
-nonneg-neg : (x : ℤ) → lt_z x (pos 0) ≡ true → T (non_neg (neg_ℤ x))
-nonneg-neg (pos n) e = absurd (omega (arith, ltb-true n 0 e))
-nonneg-neg (negsuc n) e = tt
 
 nonneg : (x : ℤ) → lt_z x (pos 0) ≡ false → T (non_neg x)
 nonneg (pos n) e = tt
@@ -127,15 +102,6 @@ nonneg (negsuc n) e = absurd (omega (arith, let z : ◌≡◌ {A = ℕ} 0 1 = cc
 abs-fits : (x : ℤ) → SFits w64 x → Fits w64 (nat_abs x)
 abs-fits (pos n) f = record { fits = let h : n < 2 ^ 63 = f.sfits in omega arith }
 abs-fits (negsuc n) f = record { fits = let h : n < 2 ^ 63 = f.sfits in omega arith }
-
--- -x cast to an unsigned, where x < 0 and x is not the least
-pub cast-neg : (x : ℤ) → SFits w64 x → lt_z (to_z w64 (of_z w64 x)) (pos 0) ≡ true → (of_z w64 x ≡ least → ⊥) → T (non_neg (to_z w64 (of_z w64 (pos 0 -ℤ to_z w64 (of_z w64 x))))) × Fits w64 (nat_abs (to_z w64 (of_z w64 (pos 0 -ℤ to_z w64 (of_z w64 x)))))
-cast-neg x f e ne =
-    let h : Within x = not_least x f ne in
-    rw (neg-back x h) (nonneg-neg x (rw (to_z-of_z f) at e), abs-fits (neg_ℤ x) (fits (neg_ℤ x) (neg-within x h)))
-
-pub abs-negated : (x : ℤ) → SFits w64 x → (of_z w64 x ≡ least → ⊥) → nat_abs (to_z w64 (of_z w64 (pos 0 -ℤ to_z w64 (of_z w64 x)))) ≡ nat_abs x
-abs-negated x f ne = rw (neg-back x (not_least x f ne)) (abs_neg x)
 
 pub cast-pos : (x : ℤ) → SFits w64 x → lt_z (to_z w64 (of_z w64 x)) (pos 0) ≡ false → T (non_neg (to_z w64 (of_z w64 x))) × Fits w64 (nat_abs (to_z w64 (of_z w64 x)))
 cast-pos x f e = rw (to_z-of_z f) (nonneg x (rw (to_z-of_z f) at e), abs-fits x f)
@@ -152,19 +118,7 @@ size-neg-fits m h = rw (size_back m h, neg_sum (pos m)) (fits (neg_ℤ (pos m)) 
 pub size-neg-back : (m : ℕ) → m ≤ limit → to_z w64 (of_z w64 (pos 0 -ℤ to_z w64 m)) ≡ neg_ℤ (pos m)
 size-neg-back m h = rw (size_back m h, neg_sum (pos m)) (back (neg_ℤ (pos m)) (neg-within (pos m) h))
 
-pub signed_back : (t : Bool) (m : ℕ) → m ≤ limit → to_z w64 (of_z w64 (signed t m)) ≡ signed t m
-signed_back t m h = back (signed t m) (signed-within t m h)
-
-pub signed-read : (r : ℤ) (t : Bool) (m : ℕ) → r ≡ signed t m → m ≤ limit → to_z w64 (of_z w64 r) ≡ signed t m
-signed-read r t m e h = rw e (signed_back t m h)
-
 -- ---- what a test of a copied number told
-
-pub copied-within : (x : ℤ) (s t : Bool) → SFits w64 x → s ≡ within (to_z w64 (of_z w64 x)) → s ≡ t → within x ≡ t
-copied-within x s t f e p = ap within (sym (to_z-of_z f)) ∙ sym e ∙ p
-
-pub copied-neg : (x : ℤ) (s : Bool) → SFits w64 x → s ≡ lt_z (to_z w64 (of_z w64 x)) (pos 0) → s ≡ lt_z x (pos 0)
-copied-neg x s f e = e ∙ ap (λ (z : ℤ). lt_z z (pos 0)) (to_z-of_z f)
 
 pub copied-size : (x : ℤ) (m : ℕ) → SFits w64 x → m ≡ nat_abs (to_z w64 (of_z w64 x)) → m ≡ nat_abs x
 copied-size x m f e = e ∙ ap nat_abs (to_z-of_z f)
@@ -174,3 +128,8 @@ nil-bits x f e = sym (nil-test x f) ∙ eq-eqb (of_z w64 x) 0 e
 
 pub some_bits : (x : ℤ) → SFits w64 x → (of_z w64 x ≡ 0 → ⊥) → is_nil x ≡ false
 some_bits x f h = sym (nil-test x f) ∙ ne_eqb (of_z w64 x) 0 h
+
+pub signed_mul : (t : Bool) (m k : ℕ) → signed t m *ℤ pos k ≡ signed t (m * k)
+signed_mul true zero k = ap pos (let h : 0 * k ≡ 0 = omega arith in h) ∙ ap (λ (n : ℕ). neg_ℤ (pos n)) (let h : 0 ≡ 0 * k = omega arith in h)
+signed_mul true (suc m) k = refl
+signed_mul false m k = refl

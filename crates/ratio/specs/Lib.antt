@@ -1,6 +1,5 @@
 pub mod Refusal
 pub mod Range
-pub mod Number
 pub mod Gcd
 pub mod Step
 pub mod Promise

@@ -1,13 +1,13 @@
 -- Demand 2 for a rational step: it is answered exactly when document 01 says, and the answer is the textbook's rational, in lowest terms.
-use Rattle.std.specs.Prelude.{◌≡◌, Bool, true, ℕ, ℤ, pos, nat_abs, ◌+ℤ◌, ◌-ℤ◌, ◌*ℤ◌, ◌<ℤ◌}
+use Rattle.std.specs.declared.cmp.Ordering.TheVariants.{Less, Equal, Greater}
+use Rattle.std.specs.declared.cmp.Ordering.{Ordering}
+use Rattle.ratio.specs.declared.Reason.{Reason}
+use Rattle.std.specs.Prelude.{◌≡◌, Bool, true, ℕ, ℤ, pos, nat_abs, ◌+ℤ◌, ◌-ℤ◌, ◌*ℤ◌, ◌<ℤ◌, Result, Ok}
 use Rattle.std.specs.Int.{◌∣◌}
 use Rattle.algebra.specs.Rational.{Rat, Same, over}
 use Rattle.algebra.specs.Rational as Q
 use Rattle.ratio.specs.declared.Ratio.{Ratio}
-use Rattle.ratio.specs.declared.Step.{Step}
-use Rattle.ratio.specs.declared.Order.{Order}
-use Rattle.ratio.specs.declared.Order.TheVariants.{Less, Equal, Greater}
-use Rattle.ratio.specs.Refusal.{status_of, ratio_of, order_status}
+use Rattle.ratio.specs.Refusal.{status_of, ratio_of}
 use Rattle.ratio.specs.Range.{Within}
 
 -- the rational that a fraction is
@@ -56,16 +56,16 @@ pub record Tells (P : Type 0) (t : Bool) : Type 0 where
   pub tells : P → t ≡ true
 
 -- the step s is answered exactly when `ok` holds, and the answer is then the rational x, in lowest terms
-pub record Answers (ok : Type 0) (x : Rat) (s : Step) : Type 0 where
+pub record Answers (ok : Type 0) (x : Rat) (s : Result Ratio Reason) : Type 0 where
   pub answered : ok → status_of s ≡ 0
   pub only : status_of s ≡ 0 → ok
   pub is : status_of s ≡ 0 → Same (rat (ratio_of s)) x
   pub lowest : status_of s ≡ 0 → Lowest (ratio_of s)
 
 -- the comparison o of a and b is answered exactly for two fractions, and tells their order
-pub record Orders (a b : Ratio) (o : Order) : Type 0 where
-  pub answered : Fraction a → Fraction b → order_status o ≡ 0
-  pub only : order_status o ≡ 0 → Fraction a × Fraction b
-  pub less : o ≡ Less → Q.Less (rat a) (rat b)
-  pub equal : o ≡ Equal → Same (rat a) (rat b)
-  pub greater : o ≡ Greater → Q.Less (rat b) (rat a)
+pub record Orders (a b : Ratio) (o : Result Ordering Reason) : Type 0 where
+  pub answered : Fraction a → Fraction b → status_of o ≡ 0
+  pub only : status_of o ≡ 0 → Fraction a × Fraction b
+  pub less : o ≡ Ok Less → Q.Less (rat a) (rat b)
+  pub equal : o ≡ Ok Equal → Same (rat a) (rat b)
+  pub greater : o ≡ Ok Greater → Q.Less (rat b) (rat a)

@@ -1,4 +1,6 @@
 -- The place of a bad word lies within the text; reading makes no steps.
+use Rattle.ratio.specs.declared.Reason.{Reason}
+use Rattle.std.specs.Prelude.{Result, Ok, Err}
 use mathlib.Core.Path.{◌≡◌, refl}
 use mathlib.Core.Bool.{Bool, true, false, cond}
 use mathlib.Core.List.{List, [], ◌∷◌, ◌++◌}
@@ -7,11 +9,8 @@ use native.Mathlib.Omega.{arith}
 use lib.Dec.{ltb}
 use lib.ListN.{length, length-append}
 use Rattle.ratio.specs.Step.{is_nil}
-use Rattle.ratio.specs.declared.Outcome.TheVariants as O
 use Rattle.ratio.specs.declared.Ratio.{Ratio}
 use Rattle.ratio.specs.declared.Reason.TheVariants.{TooLong, Malformed}
-use Rattle.ratio.specs.declared.Step.{Step}
-use Rattle.ratio.specs.declared.Step.TheVariants as S
 use Rattle.terms.specs.declared.Answer.{Answer}
 use Rattle.terms.specs.Answer.{done_with, refused_with}
 use Rattle.terms.specs.Poly.{poly_of}
@@ -23,7 +22,7 @@ use Rattle.reading.proofs.Joined.{parted-words}
 
 -- what is bad is bad at most at n
 abbrev pub Placed : Answer → ℕ → Type 0
-Placed r n = (k : ℕ) → r.outcome ≡ O.Refused (Malformed k) → k ≤ n
+Placed r n = (k : ℕ) → r.outcome ≡ Err (Malformed k) → k ≤ n
 
 bad-placed : (at n : ℕ) → at ≤ n → Placed (bad_at at) n
 bad-placed at n h k e = let z : at ≡ k = cc in omega arith
@@ -37,9 +36,9 @@ top_placed at n l c true u h k e = alone-placed at n l h k e
 top_placed at n l c false true h k e = let z : ◌≡◌ {A = ℕ} 0 1 = cc in absurd (omega arith)
 top_placed at n l c false false h k e = let z : ◌≡◌ {A = ℕ} 0 1 = cc in absurd (omega arith)
 
-onward-placed : (at n : ℕ) (f : Ratio → Answer) (s : Step) → at ≤ n → ((c : Ratio) → Placed (f c) n) → Placed (onward at f s) n
-onward-placed at n f (S.Done c) h g = g c
-onward-placed at n f (S.Refused why) h g = bad-placed at n h
+onward-placed : (at n : ℕ) (f : Ratio → Answer) (s : Result Ratio Reason) → at ≤ n → ((c : Ratio) → Placed (f c) n) → Placed (onward at f s) n
+onward-placed at n f (Ok c) h g = g c
+onward-placed at n f (Err why) h g = bad-placed at n h
 
 coeffs-placed : (at n : ℕ) (l : List Ratio) (ws : List (List ℕ)) → at + length (parted ws) ≤ n → Placed (coeffs_from at l ws) n
 unfolding coeffs_from parted spaced
@@ -64,9 +63,9 @@ top-steps at l c true u = alone-steps at l
 top-steps at l c false true = refl
 top-steps at l c false false = refl
 
-onward-steps : (at : ℕ) (f : Ratio → Answer) (s : Step) → ((c : Ratio) → (f c).steps ≡ 0) → (onward at f s).steps ≡ 0
-onward-steps at f (S.Done c) h = h c
-onward-steps at f (S.Refused why) h = refl
+onward-steps : (at : ℕ) (f : Ratio → Answer) (s : Result Ratio Reason) → ((c : Ratio) → (f c).steps ≡ 0) → (onward at f s).steps ≡ 0
+onward-steps at f (Ok c) h = h c
+onward-steps at f (Err why) h = refl
 
 coeffs-steps : (at : ℕ) (l : List Ratio) (ws : List (List ℕ)) → (coeffs_from at l ws).steps ≡ 0
 unfolding coeffs_from

@@ -1,4 +1,6 @@
 -- A canonical polynomial has one spelling, which is read back.
+use Rattle.ratio.specs.Refusal.{no_refusal}
+use Rattle.std.specs.Prelude.{Result, Ok, Err}
 use mathlib.Core.Path.{◌≡◌, refl, sym, ap, ap₂, ◌∙◌}
 use mathlib.Core.Bool.{Bool, true, false, cond}
 use mathlib.Core.List.{List, [], ◌∷◌, ◌++◌, map, append_assoc}
@@ -8,12 +10,9 @@ use borrow.Author.Tests.{le-ltb, ltb-false}
 use lib.Dec.{ltb}
 use lib.ListN.{length, length-append, length-replicate}
 use Rattle.ratio.specs.Step.{is_nil, is_lowest}
-use Rattle.ratio.specs.declared.Outcome.TheVariants as O
 use Rattle.ratio.specs.declared.Ratio.{Ratio}
 use Rattle.ratio.specs.declared.Reason.{Reason}
 use Rattle.ratio.specs.declared.Reason.TheVariants.{TooLong}
-use Rattle.ratio.specs.declared.Step.{Step}
-use Rattle.ratio.specs.declared.Step.TheVariants as S
 use Rattle.ratio.proofs.Answers.{lowest-tells}
 use Rattle.ratio.proofs.Fractions.{and-true}
 use Rattle.terms.specs.declared.Answer.{Answer}
@@ -33,14 +32,14 @@ use Rattle.reading.proofs.Joined.{parted-words}
 use Rattle.reading.proofs.Avoids.{ratio-avoids, words-parted}
 use Rattle.reading.proofs.Ratios.{ratio-reads, ratio-spelt, nil-text}
 
-ratio-promise : (w : List ℕ) (s : Step) → s ≡ ratio_from w → ReadsRatio w s
+ratio-promise : (w : List ℕ) (s : Result Ratio Reason) → s ≡ ratio_from w → ReadsRatio w s
 ratio-promise w s e = record {
   lowest = λ r h. (lowest-tells r).holds (ratio-spelt w r (sym e ∙ h)).1;
   spelt = λ r h. (ratio-spelt w r (sym e ∙ h)).0;
   read = λ r l t. e ∙ ap ratio_from t ∙ ratio-reads r ((lowest-tells r).tells l);
 }
 
-pub ratio-both : (w : List ℕ) {s : Step} → s ≡ ratio_from w → (s ≡ ratio_from w) × ReadsRatio w s
+pub ratio-both : (w : List ℕ) {s : Result Ratio Reason} → s ≡ ratio_from w → (s ≡ ratio_from w) × ReadsRatio w s
 ratio-both w {s} e = (e, ratio-promise w s e)
 
 -- ---- the top coefficient
@@ -89,8 +88,8 @@ data Got (l : List Ratio) (ws : List (List ℕ)) (p : Poly) : Type 0 where
   nothing : l ≡ [] → ws ≡ (48 ∷ []) ∷ [] → p ≡ poly_of [] → Got l ws p
   some : (c : Ratio) (m : List Ratio) → ws ≡ map ratio_text (c ∷ m) → p ≡ poly_of (l ++ (c ∷ m)) → all_lowest (c ∷ m) ≡ true → trim (c ∷ m) ≡ c ∷ m → length (l ++ (c ∷ m)) ≤ 32 → Got l ws p
 
-no_answer : {X : Type 0} (r : Answer) (p : Poly) (why : Reason) → r.outcome ≡ O.Refused why → r ≡ done_with p 0 → X
-no_answer r p why e h = let q : r.outcome ≡ O.Done = ap (λ (x : Answer). x.outcome) h in let z : ◌≡◌ {A = ℕ} 0 1 = cc in absurd (omega arith)
+no_answer : {X : Type 0} (r : Answer) (p : Poly) (why : Reason) → r.outcome ≡ Err why → r ≡ done_with p 0 → X
+no_answer r p why e h = let q : r.outcome ≡ no_refusal = ap (λ (x : Answer). x.outcome) h in let z : ◌≡◌ {A = ℕ} 0 1 = cc in absurd (omega arith)
 
 is-answer : (p q : Poly) → done_with p 0 ≡ done_with q 0 → q ≡ p
 is-answer p q h = sym (ap (λ (x : Answer). x.poly) h)
@@ -107,9 +106,9 @@ top-got at l w c p t k false false n e h =
     let m : length (l ++ (c ∷ [])) ≡ length l + 1 = length-append l (c ∷ []) in
     some c [] (ap (λ x. x ∷ []) t) (is-answer (poly_of (l ++ (c ∷ []))) p h) (rw k) (one-top c n) (omega (arith, ltb-false 31 (length l) e))
 
-last-got : (at : ℕ) (l : List Ratio) (w : List ℕ) (p : Poly) (s : Step) → ratio_from w ≡ s → onward at (λ c. top_of at l c) s ≡ done_with p 0 → Got l (w ∷ []) p
-last-got at l w p (S.Done c) e h = let k = ratio-spelt w c e in top-got at l w c p k.0 k.1 (is_nil c.num) (ltb 31 (length l)) refl refl h
-last-got at l w p (S.Refused why) e h = no_answer (bad_at at) p _ refl h
+last-got : (at : ℕ) (l : List Ratio) (w : List ℕ) (p : Poly) (s : Result Ratio Reason) → ratio_from w ≡ s → onward at (λ c. top_of at l c) s ≡ done_with p 0 → Got l (w ∷ []) p
+last-got at l w p (Ok c) e h = let k = ratio-spelt w c e in top-got at l w c p k.0 k.1 (is_nil c.num) (ltb 31 (length l)) refl refl h
+last-got at l w p (Err why) e h = no_answer (bad_at at) p _ refl h
 
 not-empty : {X : Type 0} (l : List Ratio) (c : Ratio) → l ++ (c ∷ []) ≡ [] → X
 not-empty [] c e = let z : ◌≡◌ {A = ℕ} 0 1 = cc in absurd (omega arith)
@@ -122,9 +121,9 @@ more-got l w ws c p t k (some d m e f a b h) =
     let q : (l ++ (c ∷ [])) ++ (d ∷ m) ≡ l ++ (c ∷ d ∷ m) = append_assoc l (c ∷ []) (d ∷ m) in
     some c (d ∷ m) (ap₂ (λ (x : List ℕ) (y : List (List ℕ)). x ∷ y) t e) (f ∙ ap poly_of q) (rw (k, a)) (more-top c d m b) (rw q at h)
 
-onward-got : (at : ℕ) (l : List Ratio) (w : List ℕ) (ws : List (List ℕ)) (p : Poly) (f : Ratio → Answer) → ((c : Ratio) → f c ≡ done_with p 0 → Got (l ++ (c ∷ [])) ws p) → (s : Step) → ratio_from w ≡ s → onward at f s ≡ done_with p 0 → Got l (w ∷ ws) p
-onward-got at l w ws p f g (S.Done c) e h = let k = ratio-spelt w c e in more-got l w ws c p k.0 k.1 (g c h)
-onward-got at l w ws p f g (S.Refused why) e h = no_answer (bad_at at) p _ refl h
+onward-got : (at : ℕ) (l : List Ratio) (w : List ℕ) (ws : List (List ℕ)) (p : Poly) (f : Ratio → Answer) → ((c : Ratio) → f c ≡ done_with p 0 → Got (l ++ (c ∷ [])) ws p) → (s : Result Ratio Reason) → ratio_from w ≡ s → onward at f s ≡ done_with p 0 → Got l (w ∷ ws) p
+onward-got at l w ws p f g (Ok c) e h = let k = ratio-spelt w c e in more-got l w ws c p k.0 k.1 (g c h)
+onward-got at l w ws p f g (Err why) e h = no_answer (bad_at at) p _ refl h
 
 coeffs-got : (at : ℕ) (l : List Ratio) (ws : List (List ℕ)) (p : Poly) → coeffs_from at l ws ≡ done_with p 0 → Got l ws p
 unfolding coeffs_from

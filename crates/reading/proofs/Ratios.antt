@@ -1,4 +1,5 @@
 -- A fraction in lowest terms has one spelling, which is read back.
+use Rattle.std.specs.Prelude.{Ok, Err}
 use mathlib.Core.Path.{◌≡◌, refl, sym, ap, ap₂, ◌∙◌}
 use mathlib.Core.Bool.{Bool, true, false, not, cond, ◌&&◌}
 use mathlib.Core.List.{List, [], ◌∷◌, ◌++◌, append-nil}
@@ -15,7 +16,6 @@ use Rattle.ratio.specs.Range.{limit, Within, within}
 use Rattle.ratio.specs.Step.{is_nil, is_fraction, is_lowest, signed}
 use Rattle.ratio.specs.declared.Ratio.{Ratio}
 use Rattle.ratio.specs.declared.Reason.TheVariants.{BadInput}
-use Rattle.ratio.specs.declared.Step.TheVariants as S
 use Rattle.ratio.proofs.Binary.{gcd-comm}
 use Rattle.ratio.proofs.Euclid.{gcd-one, gcd-zero}
 use Rattle.ratio.proofs.Fractions.{and-true, no_size}
@@ -140,25 +140,25 @@ unfolding ratio_from
 parts-over w d a = rw (length_part 47 w d a, take-append_seam w (47 ∷ d), drop-append_seam w (47 ∷ d))
 
 module _ (n : ℤ) (m : ℕ) (u : Within n) (v : m ≤ limit) (s : m ≡ 0 → ⊥) (g : gcd_of (nat_abs n) m ≡ 1) where
-  whole-reads : m ≡ 1 → ratio_from (whole_text n) ≡ S.Done (record { num = n; den = pos m })
+  whole-reads : m ≡ 1 → ratio_from (whole_text n) ≡ Ok (record { num = n; den = pos m })
   whole-reads e = parts_whole (whole_text n) (whole-avoids 47 (omega arith) (λ z. omega arith) n) ∙ ap whole_step (numerator-read n u) ∙ rw e
 
-  over_reads : (m ≡ 1 → ⊥) → ratio_from (whole_text n ++ (47 ∷ decimal_of m)) ≡ S.Done (record { num = n; den = pos m })
+  over_reads : (m ≡ 1 → ⊥) → ratio_from (whole_text n ++ (47 ∷ decimal_of m)) ≡ Ok (record { num = n; den = pos m })
   over_reads e =
       parts-over (whole_text n) (decimal_of m) (whole-avoids 47 (omega arith) (λ z. omega arith) n)
       ∙ ap₂ fraction_step (numerator-read n u) (denominator-read m v)
       ∙ rw (le-ltb m 2 (omega (arith, s, e)), g)
 
-  text-reads : (t : Bool) → eqb m 1 ≡ t → ratio_from (cond t (whole_text n) (whole_text n ++ (47 ∷ whole_text (pos m)))) ≡ S.Done (record { num = n; den = pos m })
+  text-reads : (t : Bool) → eqb m 1 ≡ t → ratio_from (cond t (whole_text n) (whole_text n ++ (47 ∷ whole_text (pos m)))) ≡ Ok (record { num = n; den = pos m })
   unfolding whole_text
   text-reads true e = whole-reads (eqb-true m 1 e)
   text-reads false e = over_reads (eqb-false m 1 e)
 
-low_reads : (n d : ℤ) → Low n d → ratio_from (ratio_text (record { num = n; den = d })) ≡ S.Done (record { num = n; den = d })
+low_reads : (n d : ℤ) → Low n d → ratio_from (ratio_text (record { num = n; den = d })) ≡ Ok (record { num = n; den = d })
 unfolding ratio_text
 low_reads n d l = rw l.is (text-reads n l.under l.upper l.lower l.some l.common (eqb l.under 1) refl)
 
-pub ratio-reads : (r : Ratio) → is_lowest r ≡ true → ratio_from (ratio_text r) ≡ S.Done r
+pub ratio-reads : (r : Ratio) → is_lowest r ≡ true → ratio_from (ratio_text r) ≡ Ok r
 ratio-reads r e = low_reads r.num r.den (low_of r.num r.den e)
 
 -- ---- what is read was written
@@ -167,7 +167,7 @@ record Step-spelt (w : List ℕ) (r : Ratio) : Type 0 where
   pub text : w ≡ ratio_text r
   pub lowest : is_lowest r ≡ true
 
-whole-step : (w : List ℕ) (x : Whole) (r : Ratio) → numerator_of w ≡ x → whole_step x ≡ S.Done r → Step-spelt w r
+whole-step : (w : List ℕ) (x : Whole) (r : Ratio) → numerator_of w ≡ x → whole_step x ≡ Ok r → Step-spelt w r
 unfolding ratio_text
 whole-step w (W.Is z) r e h =
     let k = numerator-spelt w z e in
@@ -175,7 +175,7 @@ whole-step w (W.Is z) r e h =
     rw (sym q) (record { text = k.text; lowest = low-to z 1 k.fits (omega arith) (λ y. omega arith) (gcd-one (nat_abs z)) })
 whole-step w W.Nothing r e h = let y : ◌≡◌ {A = ℕ} 0 1 = cc in absurd (omega arith)
 
-over-chosen : (n d : List ℕ) (z : ℤ) (m : ℕ) (r : Ratio) → Whole-spelt n z → d ≡ decimal_of m → m ≤ limit → (t u : Bool) → lt_z (pos m) (pos 2) ≡ t → eqb (gcd_of (nat_abs z) m) 1 ≡ u → cond t (S.Refused BadInput) (cond u (S.Done (record { num = z; den = pos m })) (S.Refused BadInput)) ≡ S.Done r → Step-spelt (n ++ (47 ∷ d)) r
+over-chosen : (n d : List ℕ) (z : ℤ) (m : ℕ) (r : Ratio) → Whole-spelt n z → d ≡ decimal_of m → m ≤ limit → (t u : Bool) → lt_z (pos m) (pos 2) ≡ t → eqb (gcd_of (nat_abs z) m) 1 ≡ u → cond t (Err BadInput) (cond u (Ok (record { num = z; den = pos m })) (Err BadInput)) ≡ Ok r → Step-spelt (n ++ (47 ∷ d)) r
 unfolding ratio_text whole_text
 over-chosen n d z m r k e b true u f g h = let y : ◌≡◌ {A = ℕ} 0 1 = cc in absurd (omega arith)
 over-chosen n d z m r k e b false false f g h = let y : ◌≡◌ {A = ℕ} 0 1 = cc in absurd (omega arith)
@@ -187,22 +187,22 @@ over-chosen n d z m r k e b false true f g h =
       lowest = low-to z m k.fits b (λ y. omega arith) (eqb-true (gcd_of (nat_abs z) m) 1 g);
     })
 
-over-step : (n d : List ℕ) (x y : Whole) (r : Ratio) → numerator_of n ≡ x → denominator_of d ≡ y → fraction_step x y ≡ S.Done r → Step-spelt (n ++ (47 ∷ d)) r
+over-step : (n d : List ℕ) (x y : Whole) (r : Ratio) → numerator_of n ≡ x → denominator_of d ≡ y → fraction_step x y ≡ Ok r → Step-spelt (n ++ (47 ∷ d)) r
 over-step n d (W.Is z) (W.Is y) r e f h =
     let k = from-of false (natural_of d) y f in
     over-chosen n d z k.size r (numerator-spelt n z e) (natural-spelt d k.size k.number) k.fits (lt_z (pos k.size) (pos 2)) (eqb (gcd_of (nat_abs z) k.size) 1) refl refl (rw k.is at h)
 over-step n d (W.Is z) W.Nothing r e f h = let y : ◌≡◌ {A = ℕ} 0 1 = cc in absurd (omega arith)
 over-step n d W.Nothing y r e f h = let y : ◌≡◌ {A = ℕ} 0 1 = cc in absurd (omega arith)
 
-step_from : (w n : List ℕ) (d : List ℕ) (r : Ratio) → n ++ d ≡ w → ((b : ℕ) (t : List ℕ) → d ≡ b ∷ t → b ≡ 47) → ratio_in n d ≡ S.Done r → Step-spelt w r
+step_from : (w n : List ℕ) (d : List ℕ) (r : Ratio) → n ++ d ≡ w → ((b : ℕ) (t : List ℕ) → d ≡ b ∷ t → b ≡ 47) → ratio_in n d ≡ Ok r → Step-spelt w r
 step_from w n [] r e m h = rw (← e, append-nil) (whole-step n (numerator_of n) r refl h)
 step_from w n (b ∷ d) r e m h = rw (← e, m b d refl) (over-step n d (numerator_of n) (denominator_of d) r refl refl h)
 
-ratio-step : (w : List ℕ) (r : Ratio) → ratio_from w ≡ S.Done r → Step-spelt w r
+ratio-step : (w : List ℕ) (r : Ratio) → ratio_from w ≡ Ok r → Step-spelt w r
 unfolding ratio_from
 ratio-step w r h = step_from w (take (length_to 47 w) w) (drop (length_to 47 w) w) r (take-append-drop (length_to 47 w) w) (at_mark 47 w) h
 
-pub ratio-spelt : (w : List ℕ) (r : Ratio) → ratio_from w ≡ S.Done r → (w ≡ ratio_text r) × (is_lowest r ≡ true)
+pub ratio-spelt : (w : List ℕ) (r : Ratio) → ratio_from w ≡ Ok r → (w ≡ ratio_text r) × (is_lowest r ≡ true)
 ratio-spelt w r h = let k = ratio-step w r h in (k.text, k.lowest)
 
 -- zero is `0`

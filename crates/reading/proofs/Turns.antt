@@ -1,4 +1,5 @@
 -- One turn of reading coefficients: the next word is bad, is the last, or is one of several.
+use Rattle.std.specs.Prelude.{Ok, Err}
 use mathlib.Core.Path.{◌≡◌, refl, sym, ap, ◌∙◌}
 use mathlib.Core.List.{List, [], ◌∷◌, ◌++◌}
 use Prim.Native.Nat.{ℕ, ◌+◌, ◌-◌, ◌≤◌}
@@ -6,7 +7,6 @@ use native.Mathlib.Omega.{arith}
 use lib.ListN.{length, take, drop, length-append}
 use Rattle.ratio.specs.declared.Ratio.{Ratio}
 use Rattle.ratio.specs.declared.Reason.{Reason}
-use Rattle.ratio.specs.declared.Step.TheVariants as S
 use Rattle.terms.specs.declared.Poly.{Poly}
 use Rattle.terms.specs.Poly.{poly_of}
 use Rattle.tokens.specs.Words.{words_of, word_length}
@@ -17,16 +17,16 @@ use Rattle.reading.specs.Coefficients.{bad_at, top_of, coeffs_from, read_poly}
 use Rattle.reading.specs.Held.{Holds}
 use Rattle.reading.proofs.Hold.{holds-none}
 
-pub coeffs-bad : (at : ℕ) (l : List Ratio) (w : List ℕ) (ws : List (List ℕ)) {why : Reason} → ratio_from w ≡ S.Refused why → coeffs_from at l (w ∷ ws) ≡ bad_at at
+pub coeffs-bad : (at : ℕ) (l : List Ratio) (w : List ℕ) (ws : List (List ℕ)) {why : Reason} → ratio_from w ≡ Err why → coeffs_from at l (w ∷ ws) ≡ bad_at at
 unfolding coeffs_from
 coeffs-bad at l w [] e = rw e
 coeffs-bad at l w (v ∷ ws) e = rw e
 
-pub coeffs-last : (at : ℕ) (l : List Ratio) (w : List ℕ) {c : Ratio} → ratio_from w ≡ S.Done c → coeffs_from at l (w ∷ []) ≡ top_of at l c
+pub coeffs-last : (at : ℕ) (l : List Ratio) (w : List ℕ) {c : Ratio} → ratio_from w ≡ Ok c → coeffs_from at l (w ∷ []) ≡ top_of at l c
 unfolding coeffs_from
 coeffs-last at l w e = rw e
 
-pub coeffs-more : (at : ℕ) (l : List Ratio) (w t : List ℕ) {c : Ratio} → ratio_from w ≡ S.Done c → coeffs_from at l (w ∷ words_of t) ≡ coeffs_from (at + length w + 1) (l ++ (c ∷ [])) (words_of t)
+pub coeffs-more : (at : ℕ) (l : List Ratio) (w t : List ℕ) {c : Ratio} → ratio_from w ≡ Ok c → coeffs_from at l (w ∷ words_of t) ≡ coeffs_from (at + length w + 1) (l ++ (c ∷ [])) (words_of t)
 unfolding coeffs_from
 coeffs-more at l w t e = rw (parts_first 32 t, e)
 
@@ -43,10 +43,10 @@ unfolding read_poly
 under_none s p e = record { list = []; holds = rw e holds-none; inside = omega arith; few = omega arith; left = refl }
 
 module _ (s : List ℕ) (at : ℕ) (p : Poly) (u : Under s at p) (end : ℕ) (e : end ≡ at + word_length (drop at s)) where
-  pub turn-bad : {why : Reason} → ratio_from (take (end - at) (drop at s)) ≡ S.Refused why → bad_at at ≡ read_poly s
+  pub turn-bad : {why : Reason} → ratio_from (take (end - at) (drop at s)) ≡ Err why → bad_at at ≡ read_poly s
   turn-bad r = sym (coeffs-bad at u.list (take (end - at) (drop at s)) _ r) ∙ ap (coeffs_from at u.list) (sym (words-at s at end u.inside e)) ∙ u.left
 
-  module _ {c : Ratio} (r : ratio_from (take (end - at) (drop at s)) ≡ S.Done c) where
+  module _ {c : Ratio} (r : ratio_from (take (end - at) (drop at s)) ≡ Ok c) where
     pub turn_end : end ≡ length s → top_of at u.list c ≡ read_poly s
     turn_end z = sym (coeffs-last at u.list (take (end - at) (drop at s)) r) ∙ ap (coeffs_from at u.list) (sym (words_last s at end u.inside e z)) ∙ u.left
 

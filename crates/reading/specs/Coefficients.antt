@@ -1,10 +1,9 @@
 -- Document 01, "the job program": coefficients rise and are parted by one space; zero is `0` and nothing else. The first bad word is 5 with its place, a zero at the top is bad there; then over 32 is 4.
-use Rattle.std.specs.Prelude.{cond, List, [], ◌∷◌, ◌++◌, ℕ, ◌+◌, ltb, length}
+use Rattle.ratio.specs.declared.Reason.{Reason}
+use Rattle.std.specs.Prelude.{cond, List, [], ◌∷◌, ◌++◌, ℕ, ◌+◌, ltb, length, Result, Ok, Err}
 use Rattle.ratio.specs.Step.{is_nil}
 use Rattle.ratio.specs.declared.Ratio.{Ratio}
 use Rattle.ratio.specs.declared.Reason.TheVariants.{TooLong, Malformed}
-use Rattle.ratio.specs.declared.Step.{Step}
-use Rattle.ratio.specs.declared.Step.TheVariants as S
 use Rattle.terms.specs.declared.Answer.{Answer}
 use Rattle.terms.specs.Answer.{done_with, refused_with}
 use Rattle.terms.specs.Poly.{poly_of}
@@ -23,9 +22,9 @@ alone at (a ∷ l) = bad_at at
 abbrev pub top_of : ℕ → List Ratio → Ratio → Answer
 top_of at l c = cond (is_nil c.num) (alone at l) (cond (ltb 31 (length l)) (refused_with TooLong 0) (done_with (poly_of (l ++ (c ∷ []))) 0))
 
-abbrev pub onward : ℕ → (Ratio → Answer) → Step → Answer
-onward at k (S.Done c) = k c
-onward at k (S.Refused why) = bad_at at
+abbrev pub onward : ℕ → (Ratio → Answer) → Result Ratio Reason → Answer
+onward at k (Ok c) = k c
+onward at k (Err why) = bad_at at
 
 -- the rest of the words, of which the first starts at a place, after the coefficients of l
 unfoldable pub coeffs_from : ℕ → List Ratio → List (List ℕ) → Answer

@@ -1,5 +1,7 @@
 -- Document 01, "the job program": how one number is spelt: n or n/d in lowest terms, d at least 2, no leading zeros, `+` or `-0`; a float is 16 hex digits, a budget 1 to 65,536.
-use Rattle.std.specs.Prelude.{Bool, true, false, ◌&&◌, cond, List, [], ◌∷◌, ℕ, ltb, eqb, pos, nat_abs, take, drop}
+use Rattle.ratio.specs.declared.Reason.{Reason}
+use Rattle.ratio.specs.declared.Ratio.{Ratio}
+use Rattle.std.specs.Prelude.{Bool, true, false, ◌&&◌, cond, List, [], ◌∷◌, ℕ, ltb, eqb, pos, nat_abs, take, drop, Result, Ok, Err}
 use Rattle.std.specs.Int.Signed.{lt_z}
 use Rattle.std.specs.Float.{binary64}
 use Rattle.std.specs.Float.Ieee.{of_bits}
@@ -7,8 +9,6 @@ use Rattle.ratio.specs.Gcd.{gcd_of}
 use Rattle.ratio.specs.Range.{limit}
 use Rattle.ratio.specs.Step.{signed}
 use Rattle.ratio.specs.declared.Reason.TheVariants.{BadInput}
-use Rattle.ratio.specs.declared.Step.{Step}
-use Rattle.ratio.specs.declared.Step.TheVariants as S
 use Rattle.tokens.specs.declared.Number.{Number}
 use Rattle.tokens.specs.declared.Number.TheVariants as N
 use Rattle.tokens.specs.Spelling.{natural_of, bits_of}
@@ -32,24 +32,24 @@ numerator_of (b ∷ l) = cond (eqb b 45) (whole_of true (natural_of l)) (whole_o
 abbrev pub denominator_of : List ℕ → Whole
 denominator_of l = whole_of false (natural_of l)
 
-abbrev pub whole_step : Whole → Step
-whole_step (W.Is n) = S.Done (record { num = n; den = pos 1 })
-whole_step W.Nothing = S.Refused BadInput
+abbrev pub whole_step : Whole → Result Ratio Reason
+whole_step (W.Is n) = Ok (record { num = n; den = pos 1 })
+whole_step W.Nothing = Err BadInput
 
 -- lowest terms, the denominator at least 2
-abbrev pub fraction_step : Whole → Whole → Step
+abbrev pub fraction_step : Whole → Whole → Result Ratio Reason
 fraction_step (W.Is n) (W.Is d) =
-    cond (lt_z d (pos 2)) (S.Refused BadInput)
-    (cond (eqb (gcd_of (nat_abs n) (nat_abs d)) 1) (S.Done (record { num = n; den = d })) (S.Refused BadInput))
-fraction_step (W.Is n) W.Nothing = S.Refused BadInput
-fraction_step W.Nothing d = S.Refused BadInput
+    cond (lt_z d (pos 2)) (Err BadInput)
+    (cond (eqb (gcd_of (nat_abs n) (nat_abs d)) 1) (Ok (record { num = n; den = d })) (Err BadInput))
+fraction_step (W.Is n) W.Nothing = Err BadInput
+fraction_step W.Nothing d = Err BadInput
 
-abbrev pub ratio_in : List ℕ → List ℕ → Step
+abbrev pub ratio_in : List ℕ → List ℕ → Result Ratio Reason
 ratio_in n [] = whole_step (numerator_of n)
 ratio_in n (slash ∷ d) = fraction_step (numerator_of n) (denominator_of d)
 
 -- what stands before the first `/` (47) and, if there is one, what stands after it
-unfoldable pub ratio_from : List ℕ → Step
+unfoldable pub ratio_from : List ℕ → Result Ratio Reason
 ratio_from w = ratio_in (take (length_to 47 w) w) (drop (length_to 47 w) w)
 
 abbrev pub real_of : Number → Real

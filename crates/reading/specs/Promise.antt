@@ -1,9 +1,8 @@
 -- Reading and writing are inverse (document 01, "the job program"): a text of coefficients has at most one reading, and a polynomial has one spelling, which is read back.
-use Rattle.std.specs.Prelude.{◌≡◌, List, ℕ, length}
+use Rattle.ratio.specs.declared.Reason.{Reason}
+use Rattle.std.specs.Prelude.{◌≡◌, List, ℕ, length, Result, Ok}
 use Rattle.ratio.specs.Promise.{Lowest}
 use Rattle.ratio.specs.declared.Ratio.{Ratio}
-use Rattle.ratio.specs.declared.Step.{Step}
-use Rattle.ratio.specs.declared.Step.TheVariants as S
 use Rattle.terms.specs.declared.Answer.{Answer}
 use Rattle.terms.specs.declared.Poly.{Poly}
 use Rattle.terms.specs.Answer.{done_with}
@@ -13,10 +12,10 @@ use Rattle.poly.specs.Door.{door_of}
 use Rattle.text.specs.Spell.{ratio_text, poly_text}
 
 -- a word is answered exactly when it is the spelling of a fraction in lowest terms, and by that fraction
-pub record ReadsRatio (w : List ℕ) (s : Step) : Type 0 where
-  pub lowest : (r : Ratio) → s ≡ S.Done r → Lowest r
-  pub spelt : (r : Ratio) → s ≡ S.Done r → w ≡ ratio_text r
-  pub read : (r : Ratio) → Lowest r → w ≡ ratio_text r → s ≡ S.Done r
+pub record ReadsRatio (w : List ℕ) (s : Result Ratio Reason) : Type 0 where
+  pub lowest : (r : Ratio) → s ≡ Ok r → Lowest r
+  pub spelt : (r : Ratio) → s ≡ Ok r → w ≡ ratio_text r
+  pub read : (r : Ratio) → Lowest r → w ≡ ratio_text r → s ≡ Ok r
 
 -- what the door lets in, in an array of 32
 pub record CanonicalPoly (p : Poly) : Type 0 where

@@ -8,7 +8,7 @@ ghost use Rattle.reading.specs.Coefficients.{bad_at, top_of, read_poly};
 ghost use Rattle.reading.specs.Promise.{ReadsRatio, ReadsPoly};
 ghost use Rattle.reading.specs.Held.{Holds};
 
-use ratio::{Ratio, Reason, Step};
+use ratio::{Ratio, Reason};
 use terms::{Answer, Poly};
 use tokens::Number;
 
@@ -64,36 +64,36 @@ fn denominator(word: &[u8]) -> Whole
     signed(false, tokens::natural(word))
 }
 
-fn integer(n: Whole) -> Step
+fn integer(n: Whole) -> Result<Ratio, Reason>
     ensures { result ≡ whole_step n }
 {
     match n {
-        Whole::Is(num) => Step::Done(Ratio { num, den: 1 }),
-        Whole::Nothing => Step::Refused(Reason::BadInput),
+        Whole::Is(num) => Ok(Ratio { num, den: 1 }),
+        Whole::Nothing => Err(Reason::BadInput),
     }
 }
 
 // Lowest terms, the denominator at least 2.
-fn fraction(n: Whole, d: Whole) -> Step
+fn fraction(n: Whole, d: Whole) -> Result<Ratio, Reason>
     ensures { result ≡ fraction_step n d }
 {
     let Whole::Is(num) = n else {
-        return Step::Refused(Reason::BadInput);
+        return Err(Reason::BadInput);
     };
     let Whole::Is(den) = d else {
-        return Step::Refused(Reason::BadInput);
+        return Err(Reason::BadInput);
     };
     if den < 2 {
-        Step::Refused(Reason::BadInput)
+        Err(Reason::BadInput)
     } else if ratio::gcd_i64(num, den) == 1 {
-        Step::Done(Ratio { num, den })
+        Ok(Ratio { num, den })
     } else {
-        Step::Refused(Reason::BadInput)
+        Err(Reason::BadInput)
     }
 }
 
 // The fraction that a word spells: n or n/d.
-pub fn read_ratio(word: &[u8]) -> Step
+pub fn read_ratio(word: &[u8]) -> Result<Ratio, Reason>
     ensures is { result ≡ ratio_from word.now }
     ensures promise { ReadsRatio word.now result }
 {
@@ -181,7 +181,7 @@ pub fn read_poly(text: &[u8]) -> Answer
     let mut at: usize = 0;
     while at <= text.len() {
         let end = tokens::word_end(text, at);
-        let Step::Done(c) = read_ratio(&text[at..end]) else {
+        let Ok(c) = read_ratio(&text[at..end]) else {
             return bad(at);
         };
         if end == text.len() {

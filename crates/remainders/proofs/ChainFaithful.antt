@@ -1,4 +1,6 @@
 -- The writer beside the plain machine: each step that is written keeps the chain faithful, and the plain machine counts it.
+use Rattle.ratio.specs.declared.Reason.{Reason}
+use Rattle.std.specs.Prelude.{Result, Ok, Err}
 use mathlib.Core.Path.{◌≡◌, refl, sym, ap, ap₂, ◌∙◌}
 use mathlib.Core.List.{List, [], ◌∷◌, ◌++◌}
 use mathlib.Core.Logic.{◌⊎◌, inl, inr}
@@ -14,8 +16,6 @@ use Rattle.ratio.specs.Refusal.{ratio_of, zero_r}
 use Rattle.ratio.specs.Step.{inv_of}
 use Rattle.ratio.specs.declared.Ratio.{Ratio}
 use Rattle.ratio.specs.declared.Reason.TheVariants.{CoeffOverflow}
-use Rattle.ratio.specs.declared.Step.{Step}
-use Rattle.ratio.specs.declared.Step.TheVariants.{Done, Refused}
 use Rattle.ratio.proofs.Steps.{add_done, sub-done, mul-done, inv-done, add-either, sub-either, mul-either, zero-lowest}
 use Rattle.terms.specs.Machine.{Op, plus, minus, times, step_of, counted, plain, whole_r}
 use Rattle.terms.proofs.StepsRelated.{Relation, Outcome, answered, refused, Kept}
@@ -23,18 +23,18 @@ use Rattle.remainders.specs.Chain.{Name, first, second, constant, inverse, resul
 
 -- ---- of two fractions, a step is a fraction or leaves the range; the inverse of a fraction is one
 
-as-fraction : (s : Step) → ((r : Ratio) → s ≡ Done r → Fraction r) → ((r : Ratio) × (s ≡ Done r)) ⊎ (s ≡ Refused CoeffOverflow) → ((r : Ratio) × (s ≡ Done r) × Fraction r) ⊎ (s ≡ Refused CoeffOverflow)
+as-fraction : (s : Result Ratio Reason) → ((r : Ratio) → s ≡ Ok r → Fraction r) → ((r : Ratio) × (s ≡ Ok r)) ⊎ (s ≡ Err CoeffOverflow) → ((r : Ratio) × (s ≡ Ok r) × Fraction r) ⊎ (s ≡ Err CoeffOverflow)
 as-fraction s f (inl d) = inl (d.0, d.1, f d.0 d.1)
 as-fraction s f (inr e) = inr e
 
-step-either : (op : Op) (x y : Ratio) → Fraction x → Fraction y → ((r : Ratio) × (step_of op x y ≡ Done r) × Fraction r) ⊎ (step_of op x y ≡ Refused CoeffOverflow)
+step-either : (op : Op) (x y : Ratio) → Fraction x → Fraction y → ((r : Ratio) × (step_of op x y ≡ Ok r) × Fraction r) ⊎ (step_of op x y ≡ Err CoeffOverflow)
 step-either plus x y f g = as-fraction _ (λ r e. (add_done x y r e).1.fraction) (add-either x y f g)
 step-either minus x y f g = as-fraction _ (λ r e. (sub-done x y r e).1.fraction) (sub-either x y f g)
 step-either times x y f g = as-fraction _ (λ r e. (mul-done x y r e).1.fraction) (mul-either x y f g)
 
-inverse-is : (x : Ratio) (s : Step) → inv_of x ≡ s → Fraction (ratio_of s)
-inverse-is x (Done r) e = (inv-done x r e).1.fraction
-inverse-is x (Refused why) e = zero-lowest.fraction
+inverse-is : (x : Ratio) (s : Result Ratio Reason) → inv_of x ≡ s → Fraction (ratio_of s)
+inverse-is x (Ok r) e = (inv-done x r e).1.fraction
+inverse-is x (Err why) e = zero-lowest.fraction
 
 -- what was known stays known
 pub record Longer (r r' : List Ratio) : Type 0 where
@@ -125,18 +125,18 @@ module _ (a b : List Ratio) where
             rw (q, chain-last chain x) (rw all at e)
 
     -- an answered step more
-    faithful-more : (y : Ratio) → step_of x.op (meaning a b r x.left) (meaning a b r x.right) ≡ Done y → Faithful a b (chain ++ (x ∷ [])) (r ++ (y ∷ []))
+    faithful-more : (y : Ratio) → step_of x.op (meaning a b r x.left) (meaning a b r x.right) ≡ Ok y → Faithful a b (chain ++ (x ∷ [])) (r ++ (y ∷ []))
     faithful-more y s = record { earlier = earlier_more; answered = λ k h. go k h (dec_lt k (length r)) }
       where
-        go : (k : ℕ) → k < length (r ++ (y ∷ [])) → Dec (k < length r) → performed a b (chain ++ (x ∷ [])) (r ++ (y ∷ [])) k ≡ Done (get_or (r ++ (y ∷ [])) k zero_r)
+        go : (k : ℕ) → k < length (r ++ (y ∷ [])) → Dec (k < length r) → performed a b (chain ++ (x ∷ [])) (r ++ (y ∷ [])) k ≡ Ok (get_or (r ++ (y ∷ [])) k zero_r)
         go k h (yes l) =
-            performed-kept chain x r (r ++ (y ∷ [])) k (longer-one r y) (omega arith) (omega arith) (f.earlier k (omega arith)) ∙ f.answered k l ∙ ap Done (sym (get_or-append r (y ∷ []) zero_r k l))
+            performed-kept chain x r (r ++ (y ∷ [])) k (longer-one r y) (omega arith) (omega arith) (f.earlier k (omega arith)) ∙ f.answered k l ∙ ap Ok (sym (get_or-append r (y ∷ []) zero_r k l))
         go k h (no l) =
             let q : k ≡ length r = omega (arith, length-append r (y ∷ [])) in
-            performed-last chain x (r ++ (y ∷ [])) k (q ∙ all) ∙ ap₂ (step_of x.op) (meaning-later r _ (longer-one r y) x.left e.0) (meaning-later r _ (longer-one r y) x.right e.1) ∙ s ∙ ap Done (sym (rw q (get_or-append_seam r y [] zero_r)))
+            performed-last chain x (r ++ (y ∷ [])) k (q ∙ all) ∙ ap₂ (step_of x.op) (meaning-later r _ (longer-one r y) x.left e.0) (meaning-later r _ (longer-one r y) x.right e.1) ∙ s ∙ ap Ok (sym (rw q (get_or-append_seam r y [] zero_r)))
 
     -- a refused step more
-    stopped_more : step_of x.op (meaning a b r x.left) (meaning a b r x.right) ≡ Refused CoeffOverflow → Stopped a b (chain ++ (x ∷ []))
+    stopped_more : step_of x.op (meaning a b r x.left) (meaning a b r x.right) ≡ Err CoeffOverflow → Stopped a b (chain ++ (x ∷ []))
     stopped_more s = record {
       results = r;
       all_but_one = omega (arith, chain-longer chain x);
@@ -170,14 +170,14 @@ module _ (a b : List Ratio) where
       count-more : suc n ≡ length (chain ++ (w ∷ []))
       count-more = omega (arith, chain-longer chain w, q.count)
 
-      sofar-more : (z : Ratio) → step_of op y v ≡ Done z → Sofar (r ++ (z ∷ [])) (chain ++ (w ∷ [])) (suc n)
+      sofar-more : (z : Ratio) → step_of op y v ≡ Ok z → Sofar (r ++ (z ∷ [])) (chain ++ (w ∷ [])) (suc n)
       sofar-more z e = record {
         all = omega (arith, chain-longer chain w, length-append r (z ∷ []), q.all);
         count = count-more;
         faithful = faithful-more chain r q.all q.faithful w (h.before, g.before) z (step_is ∙ e);
       }
 
-      go : ((z : Ratio) × (step_of op y v ≡ Done z) × Fraction z) ⊎ (step_of op y v ≡ Refused CoeffOverflow) → Outcome writing Named r (noted chain w (step_of op y v)) (counted n (step_of op y v))
+      go : ((z : Ratio) × (step_of op y v ≡ Ok z) × Fraction z) ⊎ (step_of op y v ≡ Err CoeffOverflow) → Outcome writing Named r (noted chain w (step_of op y v)) (counted n (step_of op y v))
       go (inl d) = rw d.1 (answered (r ++ (d.0 ∷ [])) (longer-one r d.0) (sofar-more d.0 d.1) (result-named r (length chain) d.0 q.all d.2))
       go (inr e) = rw e (refused (record { count = count-more; stopped = stopped_more chain r q.all q.faithful w (h.before, g.before) (step_is ∙ e) }))
 

@@ -1,4 +1,5 @@
 -- What an answer says of the work behind it: answered or refused, the steps that were made, and the steps that were made before.
+use Rattle.std.specs.Prelude.{Ok, Err}
 use mathlib.Core.Path.{◌≡◌, refl, ap, ap₂, ◌∙◌}
 use mathlib.Core.Bool.{Bool, true, false}
 use mathlib.Core.List.{List, [], ◌∷◌}
@@ -7,8 +8,7 @@ use native.Mathlib.Nat.{mul-le-mul_left, mul-le-mul_right}
 use native.Mathlib.Omega.{arith}
 use lib.Dec.{ltb}
 use lib.ListN.{length}
-use Rattle.ratio.specs.declared.Outcome.{Outcome}
-use Rattle.ratio.specs.declared.Outcome.TheVariants as O
+use Rattle.ratio.specs.Refusal.{Outcome, no_refusal}
 use Rattle.ratio.specs.declared.Ratio.{Ratio}
 use Rattle.ratio.specs.declared.Reason.{Reason}
 use Rattle.terms.specs.declared.Answer.{Answer}
@@ -26,7 +26,7 @@ use Rattle.remainders.specs.Answer.{division_of, divided_of, number_of}
 use Rattle.remainders.proofs.PriceDivide.{division-lower, division-price}
 
 -- an outcome is one of the two
-pub done_refused : {X : Type 0} (o : Outcome) (why : Reason) → o ≡ O.Done → o ≡ O.Refused why → X
+pub done_refused : {X : Type 0} (o : Outcome) (why : Reason) → o ≡ no_refusal → o ≡ Err why → X
 done_refused o why e f = absurd (let z : ◌≡◌ {A = ℕ} 0 1 = cc in omega arith)
 
 pub shift-steps : {X : Type 0} (k : ℕ) (r : Ran ℕ X) → steps_of (shift k r) ≡ k + steps_of r
@@ -39,11 +39,11 @@ split-same : (s : Split Ratio) → split (terms_of (poly_of s.quotient)) (terms_
 split-same s = ap₂ split (terms-of-poly s.quotient) (terms-of-poly s.rest)
 
 module _ (d : Division) where
-  work-fine : (r : Ran ℕ (Split Ratio)) → d ≡ division_of r → d.outcome ≡ O.Done → r ≡ fine d.steps (split (terms_of d.quotient) (terms_of d.rest))
+  work-fine : (r : Ran ℕ (Split Ratio)) → d ≡ division_of r → d.outcome ≡ no_refusal → r ≡ fine d.steps (split (terms_of d.quotient) (terms_of d.rest))
   work-fine (fine k s) e o = rw (e, split-same s)
   work-fine (over k) e o = done_refused d.outcome _ o (ap (λ (x : Division). x.outcome) e)
 
-  work-refused : (r : Ran ℕ (Split Ratio)) (why : Reason) → d ≡ division_of r → d.outcome ≡ O.Refused why → r ≡ over d.steps
+  work-refused : (r : Ran ℕ (Split Ratio)) (why : Reason) → d ≡ division_of r → d.outcome ≡ Err why → r ≡ over d.steps
   work-refused (fine k s) why e o = done_refused d.outcome why (ap (λ (x : Division). x.outcome) e) o
   work-refused (over k) why e o = rw e
 
@@ -69,10 +69,10 @@ divided-few [] b h j l = rw (division-lower [] b h (omega arith) 0) (omega arith
 divided-few (x ∷ a) b h j l = omega (arith, division-price (x ∷ a) b h (omega arith) 0, price-if (ltb (length (x ∷ a) - 1) (length b - 1)) (length (x ∷ a) - 1) (length b - 1) (omega arith) (omega arith))
 
 module _ (a b : List Ratio) (d : Division) (some : 1 ≤ length b) (e : d ≡ divided_of a b) where
-  pub division-fine : d.outcome ≡ O.Done → divided plain a b 0 ≡ fine d.steps (split (terms_of d.quotient) (terms_of d.rest))
+  pub division-fine : d.outcome ≡ no_refusal → divided plain a b 0 ≡ fine d.steps (split (terms_of d.quotient) (terms_of d.rest))
   division-fine o = work-fine d (divided plain a b 0) (e ∙ some-divided a b some) o
 
-  pub division-refused : (why : Reason) → d.outcome ≡ O.Refused why → divided plain a b 0 ≡ over d.steps
+  pub division-refused : (why : Reason) → d.outcome ≡ Err why → divided plain a b 0 ≡ over d.steps
   division-refused why o = work-refused d (divided plain a b 0) why (e ∙ some-divided a b some) o
 
   pub division_steps : d.steps ≡ steps_of (divided plain a b 0)
@@ -90,11 +90,11 @@ module _ (w : Answer) where
     pub is : r ≡ fine w.steps list
     pub terms : terms_of w.poly ≡ trim list
 
-  pub answer-fine : (r : Ran ℕ (List Ratio)) → w ≡ answer_of r → w.outcome ≡ O.Done → Worked r
+  pub answer-fine : (r : Ran ℕ (List Ratio)) → w ≡ answer_of r → w.outcome ≡ no_refusal → Worked r
   answer-fine (fine k l) e o = record { list = l; is = rw e; terms = rw e (terms-of-poly (trim l)) }
   answer-fine (over k) e o = done_refused w.outcome _ o (ap (λ (x : Answer). x.outcome) e)
 
-  pub answer-refused : (r : Ran ℕ (List Ratio)) (why : Reason) → w ≡ answer_of r → w.outcome ≡ O.Refused why → r ≡ over w.steps
+  pub answer-refused : (r : Ran ℕ (List Ratio)) (why : Reason) → w ≡ answer_of r → w.outcome ≡ Err why → r ≡ over w.steps
   answer-refused (fine k l) why e o = done_refused w.outcome why (ap (λ (x : Answer). x.outcome) e) o
   answer-refused (over k) why e o = rw e
 
@@ -110,11 +110,11 @@ module _ (w : Answer) where
 -- ---- a fraction
 
 module _ (w : Number) where
-  pub number-fine : (r : Ran ℕ Ratio) → w ≡ number_of r → w.outcome ≡ O.Done → r ≡ fine w.steps w.value
+  pub number-fine : (r : Ran ℕ Ratio) → w ≡ number_of r → w.outcome ≡ no_refusal → r ≡ fine w.steps w.value
   number-fine (fine k x) e o = rw e
   number-fine (over k) e o = done_refused w.outcome _ o (ap (λ (x : Number). x.outcome) e)
 
-  pub number-refused : (r : Ran ℕ Ratio) (why : Reason) → w ≡ number_of r → w.outcome ≡ O.Refused why → r ≡ over w.steps
+  pub number-refused : (r : Ran ℕ Ratio) (why : Reason) → w ≡ number_of r → w.outcome ≡ Err why → r ≡ over w.steps
   number-refused (fine k x) why e o = done_refused w.outcome why (ap (λ (x : Number). x.outcome) e) o
   number-refused (over k) why e o = rw e
 

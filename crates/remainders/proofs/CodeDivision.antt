@@ -1,4 +1,5 @@
 -- Laws of the quotient's terms: a loop that has k of them left, in 32 places, its turn, its end and its refusals.
+use Rattle.std.specs.Prelude.{Ok, Err}
 use mathlib.Core.Path.{◌≡◌, refl, sym, ap, ap₂, subst, ◌∙◌}
 use mathlib.Core.Bool.{true, false}
 use mathlib.Core.List.{List, [], ◌∷◌, ◌++◌}
@@ -8,13 +9,11 @@ use native.Mathlib.Omega.{arith}
 use borrow.Author.Tests.{lt-ltb, le-ltb}
 use lib.ListN.{length, take, drop, get_or, set, length-take, length-set, take-append-drop, drop_of_length-le}
 use lib.Seq.{take_at, take-take, length-take-le}
-use Rattle.ratio.specs.Refusal.{ratio_of, zero_r}
+use Rattle.ratio.specs.Refusal.{ratio_of, zero_r, no_refusal}
 use Rattle.ratio.specs.Step.{mul_of, inv_of}
-use Rattle.ratio.specs.declared.Outcome.TheVariants as O
 use Rattle.ratio.specs.declared.Ratio.{Ratio}
 use Rattle.ratio.specs.declared.Reason.{Reason}
 use Rattle.ratio.specs.declared.Reason.TheVariants.{CoeffOverflow, DivByZero}
-use Rattle.ratio.specs.declared.Step.TheVariants.{Done, Refused}
 use Rattle.terms.specs.declared.Row.{Row}
 use Rattle.terms.specs.Poly.{poly_of, trim}
 use Rattle.terms.specs.Machine.{minus, Ran, fine, over, and_then, plain}
@@ -74,7 +73,7 @@ unfolding divided_of
 divided-zero a [] h = refl
 divided-zero a (y ∷ b) h = absurd (omega arith)
 
-pub divided-lower : (a b : List Ratio) → length a < length b → ◌≡◌ {A = Division} (record { outcome = O.Done; quotient = poly_of []; rest = poly_of (trim a); steps = 0 }) (divided_of a b)
+pub divided-lower : (a b : List Ratio) → length a < length b → ◌≡◌ {A = Division} (record { outcome = no_refusal; quotient = poly_of []; rest = poly_of (trim a); steps = 0 }) (divided_of a b)
 unfolding divided_of divided
 divided-lower a [] h = absurd (omega arith)
 divided-lower a (y ∷ b) h = rw (lt-ltb (length a) (length (y ∷ b)) h)
@@ -113,7 +112,7 @@ module _ (a b : List Ratio) (n m : ℕ) (i : Ratio) where
     terms-answer : division_of (and_then (quotients plain (take n rem) b k (drop k (take (n - m + 1) quot)) steps) (finished plain b)) ≡ divided_of a b
     terms-answer = rw l.whole (answer l.some l.higher l.dividend l.divisor)
 
-    pub left-none : k ≤ 0 → ◌≡◌ {A = Division} (record { outcome = O.Done; quotient = poly_of (trim (take (n - m + 1) quot)); rest = poly_of (trim (take (m - 1) rem)); steps = steps }) (divided_of a b)
+    pub left-none : k ≤ 0 → ◌≡◌ {A = Division} (record { outcome = no_refusal; quotient = poly_of (trim (take (n - m + 1) quot)); rest = poly_of (trim (take (m - 1) rem)); steps = steps }) (divided_of a b)
     unfolding quotients
     left-none h =
         let e : k ≡ 0 = omega arith in
@@ -146,11 +145,11 @@ module _ (a b : List Ratio) (n m : ℕ) (i : Ratio) where
           let e : k ≡ suc (k - 1) = omega arith in
           subst (λ (x : ℕ). division_of (and_then (quotients plain (take n rem) b x (drop x (take (n - m + 1) quot)) steps) (finished plain b)) ≡ divided_of a b) e terms-answer
 
-      pub product-over : (why : Reason) → mul_of (get_or rem (k - 1 + m - 1) past) i ≡ Refused why → no_division CoeffOverflow (steps + 1) ≡ divided_of a b
+      pub product-over : (why : Reason) → mul_of (get_or rem (k - 1 + m - 1) past) i ≡ Err why → no_division CoeffOverflow (steps + 1) ≡ divided_of a b
       unfolding quotients
       product-over why e = rw add-one (rw (sym product ∙ e) at next)
 
-      module _ (t : Ratio) (w : Row) (e : mul_of (get_or rem (k - 1 + m - 1) past) i ≡ Done t) (f : w ≡ row_given (k - 1) rem t b true (steps + 1)) where
+      module _ (t : Ratio) (w : Row) (e : mul_of (get_or rem (k - 1 + m - 1) past) i ≡ Ok t) (f : w ≡ row_given (k - 1) rem t b true (steps + 1)) where
         pub row-refused : w.fine ≡ false → no_division CoeffOverflow w.steps ≡ divided_of a b
         unfolding quotients
         row-refused g =

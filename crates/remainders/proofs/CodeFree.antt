@@ -1,11 +1,12 @@
 -- Laws of the square-free part: the answers of the derivative, the gcd and the division put together.
+use Rattle.ratio.specs.Refusal.{no_refusal}
+use Rattle.std.specs.Prelude.{Ok, Err}
 use mathlib.Core.Path.{◌≡◌, refl, sym, ap, subst, ◌∙◌}
 use mathlib.Core.List.{List, [], ◌∷◌}
 use Prim.Native.Nat.{ℕ, ◌+◌, ◌-◌, ◌<◌, ◌≤◌}
 use native.Mathlib.Nat.{mul-le-mul_left}
 use native.Mathlib.Omega.{arith}
 use lib.ListN.{length}
-use Rattle.ratio.specs.declared.Outcome.TheVariants as O
 use Rattle.ratio.specs.declared.Ratio.{Ratio}
 use Rattle.ratio.specs.declared.Reason.{Reason}
 use Rattle.ratio.specs.declared.Reason.TheVariants.{CoeffOverflow}
@@ -51,21 +52,21 @@ monic-then [] f q k h = refl
 monic-then (r ∷ rest) f q k h = absurd (omega arith)
 
 module _ (f g : List Ratio) (d : Division) (h : 2 ≤ length g) (e : d ≡ divided_of f g) where
-  pub freed-refused : (why : Reason) → d.outcome ≡ O.Refused why → refused_with CoeffOverflow d.steps ≡ answer_of (freed plain f g 0)
+  pub freed-refused : (why : Reason) → d.outcome ≡ Err why → refused_with CoeffOverflow d.steps ≡ answer_of (freed plain f g 0)
   freed-refused why o = rw (freed-more f g h, division-refused f g d (omega arith) e why o)
 
-  freed-then : d.outcome ≡ O.Done → freed plain f g 0 ≡ monic_if plain (terms_of d.rest) f (terms_of d.quotient) d.steps
+  freed-then : d.outcome ≡ no_refusal → freed plain f g 0 ≡ monic_if plain (terms_of d.rest) f (terms_of d.quotient) d.steps
   freed-then o = rw (freed-more f g h, division-fine f g d (omega arith) e o)
 
-  pub freed-not : d.outcome ≡ O.Done → 0 < length (terms_of d.rest) → done_with (poly_of (trim f)) d.steps ≡ answer_of (freed plain f g 0)
+  pub freed-not : d.outcome ≡ no_refusal → 0 < length (terms_of d.rest) → done_with (poly_of (trim f)) d.steps ≡ answer_of (freed plain f g 0)
   freed-not o l = ap answer_of (sym (freed-then o ∙ monic-not (terms_of d.rest) f (terms_of d.quotient) d.steps l))
 
-  pub freed-done : d.outcome ≡ O.Done → length (terms_of d.rest) ≤ 0 → (w : Answer) → w ≡ answer_of (monic plain (terms_of d.quotient) 0) → ◌≡◌ {A = Answer} (record { outcome = w.outcome; poly = w.poly; steps = d.steps + w.steps }) (answer_of (freed plain f g 0))
+  pub freed-done : d.outcome ≡ no_refusal → length (terms_of d.rest) ≤ 0 → (w : Answer) → w ≡ answer_of (monic plain (terms_of d.quotient) 0) → ◌≡◌ {A = Answer} (record { outcome = w.outcome; poly = w.poly; steps = d.steps + w.steps }) (answer_of (freed plain f g 0))
   freed-done o l w p =
       answer-later w (monic plain (terms_of d.quotient) 0) d.steps p
       ∙ ap answer_of (sym (freed-then o ∙ monic-then (terms_of d.rest) f (terms_of d.quotient) d.steps l ∙ monic-shift d.steps (terms_of d.quotient)))
 
-  pub quotient-few : d.outcome ≡ O.Done → length f ≤ 32 → (w : Answer) → w ≡ answer_of (monic plain (terms_of d.quotient) 0) → w.steps ≤ 32
+  pub quotient-few : d.outcome ≡ no_refusal → length f ≤ 32 → (w : Answer) → w ≡ answer_of (monic plain (terms_of d.quotient) 0) → w.steps ≤ 32
   quotient-few o l w p =
       let b = rest_below f g (omega arith) 0 d.steps _ (division-fine f g d (omega arith) e o) in
       omega (arith, b.few-terms, answer-counts w (monic plain (terms_of d.quotient) 0) p, monic-price (terms_of d.quotient) 0)
@@ -90,13 +91,13 @@ square-more (x ∷ f) h = refl
 
 -- the derivative d, the gcd g and what is left over w, each from none
 module _ (f : List Ratio) (h : 1 ≤ length f) (short : length f ≤ 32) (d : Answer) (e : d ≡ answer_of (derived plain f 0)) where
-  pub derivative-refused : (why : Reason) → d.outcome ≡ O.Refused why → refused_with CoeffOverflow d.steps ≡ answer_of (square_free plain f 0)
+  pub derivative-refused : (why : Reason) → d.outcome ≡ Err why → refused_with CoeffOverflow d.steps ≡ answer_of (square_free plain f 0)
   derivative-refused why o = rw (square-more f h, answer-refused d (derived plain f 0) why e o)
 
   pub derivative-few : d.steps ≤ 32
   derivative-few = omega (arith, answer-counts d (derived plain f 0) e, derived-few f 0)
 
-  module _ (o : d.outcome ≡ O.Done) (g : Answer) (p : g ≡ answer_of (gcd_of plain f (terms_of d.poly) 0)) where
+  module _ (o : d.outcome ≡ no_refusal) (g : Answer) (p : g ≡ answer_of (gcd_of plain f (terms_of d.poly) 0)) where
     made : Worked d (derived plain f 0)
     made = answer-fine d (derived plain f 0) e o
 
@@ -111,10 +112,10 @@ module _ (f : List Ratio) (h : 1 ≤ length f) (short : length f ≤ 32) (d : An
     after : square_free plain f 0 ≡ and_then (shift d.steps (gcd_of plain f (terms_of d.poly) 0)) (λ j g. freed plain f (trim g) j)
     after = rw (square-more f h, made.is, ← made.terms, gcd_of-shift d.steps f (terms_of d.poly))
 
-    pub divisor-refused : (why : Reason) → g.outcome ≡ O.Refused why → refused_with CoeffOverflow (d.steps + g.steps) ≡ answer_of (square_free plain f 0)
+    pub divisor-refused : (why : Reason) → g.outcome ≡ Err why → refused_with CoeffOverflow (d.steps + g.steps) ≡ answer_of (square_free plain f 0)
     divisor-refused why q = rw (after, answer-refused g (gcd_of plain f (terms_of d.poly) 0) why p q)
 
-    module _ (q : g.outcome ≡ O.Done) (w : Answer) (r : w ≡ answer_of (freed plain f (terms_of g.poly) 0)) where
+    module _ (q : g.outcome ≡ no_refusal) (w : Answer) (r : w ≡ answer_of (freed plain f (terms_of g.poly) 0)) where
       found : Worked g (gcd_of plain f (terms_of d.poly) 0)
       found = answer-fine g (gcd_of plain f (terms_of d.poly) 0) p q
 

@@ -1,13 +1,13 @@
 -- Laws of gcd and square-free part: a loop that divides until the remainder is zero, and the answers of the parts put together.
+use Rattle.std.specs.Prelude.{Ok, Err}
 use mathlib.Core.Path.{◌≡◌, refl, sym, ap, ◌∙◌}
 use mathlib.Core.List.{List, [], ◌∷◌}
 use Prim.Native.Nat.{ℕ, zero, suc, ◌+◌, ◌-◌, ◌*◌, ◌<◌, ◌≤◌}
 use native.Mathlib.Nat.{mul-le-mul_left}
 use native.Mathlib.Omega.{arith}
 use lib.ListN.{length}
-use Rattle.ratio.specs.Refusal.{ratio_of}
+use Rattle.ratio.specs.Refusal.{ratio_of, no_refusal}
 use Rattle.ratio.specs.Step.{inv_of}
-use Rattle.ratio.specs.declared.Outcome.TheVariants as O
 use Rattle.ratio.specs.declared.Ratio.{Ratio}
 use Rattle.ratio.specs.declared.Reason.{Reason}
 use Rattle.ratio.specs.declared.Reason.TheVariants.{CoeffOverflow}
@@ -91,13 +91,13 @@ module _ (a b : List Ratio) where
       pub sum-few : steps + d.steps ≤ 2112
       sum-few = omega (arith, so_far (divided plain u v 0), ap steps_of next, l.total, division_steps u v d h e)
 
-      pub dividing-refused : (why : Reason) → d.outcome ≡ O.Refused why → refused_with CoeffOverflow (steps + d.steps) ≡ answer_of (gcd_of plain a b 0)
+      pub dividing-refused : (why : Reason) → d.outcome ≡ Err why → refused_with CoeffOverflow (steps + d.steps) ≡ answer_of (gcd_of plain a b 0)
       dividing-refused why o = ap answer_of (rw (division-refused u v d h e why o) at next)
 
-      pub rest-less : d.outcome ≡ O.Done → length (terms_of d.rest) < length v
+      pub rest-less : d.outcome ≡ no_refusal → length (terms_of d.rest) < length v
       rest-less o = (rest_below u v h 0 d.steps _ (division-fine u v d h e o)).shorter
 
-      pub dividing-more : d.outcome ≡ O.Done → Dividing a b v (terms_of d.rest) (steps + d.steps)
+      pub dividing-more : d.outcome ≡ no_refusal → Dividing a b v (terms_of d.rest) (steps + d.steps)
       dividing-more o = record { fuel = l.fuel - 1; enough = omega (arith, rest-less o, l.enough); whole = rw (division-fine u v d h e o) at next; total = l.total }
 
     module _ (w : Answer) (h : length v ≤ 0) (e : w ≡ answer_of (monic plain u 0)) where

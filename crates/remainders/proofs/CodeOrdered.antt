@@ -1,12 +1,12 @@
 -- Laws of the recursion of resultants: the run from what division, power and the inner resultant tell, each counted from 0; and bounds of their steps.
+use Rattle.std.specs.Prelude.{Ok, Err}
 use mathlib.Core.Path.{◌≡◌, refl, sym, ap, ◌∙◌}
 use mathlib.Core.List.{List, [], ◌∷◌}
 use Prim.Native.Nat.{ℕ, zero, suc, ◌+◌, ◌-◌, ◌*◌, ◌≤◌, ◌<◌}
 use native.Mathlib.Nat.{mul-le-mul}
 use native.Mathlib.Omega.{arith}
 use lib.ListN.{length, get_or}
-use Rattle.ratio.specs.Refusal.{zero_r}
-use Rattle.ratio.specs.declared.Outcome.TheVariants as O
+use Rattle.ratio.specs.Refusal.{zero_r, no_refusal}
 use Rattle.ratio.specs.declared.Ratio.{Ratio}
 use Rattle.ratio.specs.declared.Reason.{Reason}
 use Rattle.terms.specs.Poly.{terms_of}
@@ -53,11 +53,11 @@ enough (suc f) (suc g) a (y ∷ z ∷ b) k h l =
 
 -- ---- what an answer tells of the run
 
-pub number-over : (r : Ran ℕ Ratio) (x : Number) (why : Reason) → x ≡ number_of r → x.outcome ≡ O.Refused why → r ≡ over x.steps
+pub number-over : (r : Ran ℕ Ratio) (x : Number) (why : Reason) → x ≡ number_of r → x.outcome ≡ Err why → r ≡ over x.steps
 number-over (fine k y) x why e o = absurd (let n : ◌≡◌ {A = ℕ} 0 1 = cc in omega arith)
 number-over (over k) x why e o = ap over (sym (ap (λ (n : Number). n.steps) e))
 
-pub number-fine : (r : Ran ℕ Ratio) (x : Number) → x ≡ number_of r → x.outcome ≡ O.Done → r ≡ fine x.steps x.value
+pub number-fine : (r : Ran ℕ Ratio) (x : Number) → x ≡ number_of r → x.outcome ≡ no_refusal → r ≡ fine x.steps x.value
 number-fine (fine k y) x e o = rw e
 number-fine (over k) x e o = absurd (let n : ◌≡◌ {A = ℕ} 0 1 = cc in omega arith)
 
@@ -70,11 +70,11 @@ pub record Made (r : Ran ℕ (Split Ratio)) (d : Division) : Type 0 where
   pub quotient : List Ratio
   pub is : r ≡ fine d.steps (split quotient (terms_of d.rest))
 
-division-over : (r : Ran ℕ (Split Ratio)) (d : Division) (why : Reason) → d ≡ division_of r → d.outcome ≡ O.Refused why → r ≡ over d.steps
+division-over : (r : Ran ℕ (Split Ratio)) (d : Division) (why : Reason) → d ≡ division_of r → d.outcome ≡ Err why → r ≡ over d.steps
 division-over (fine k s) d why e o = absurd (let n : ◌≡◌ {A = ℕ} 0 1 = cc in omega arith)
 division-over (over k) d why e o = ap over (sym (ap (λ (n : Division). n.steps) e))
 
-division-fine : (r : Ran ℕ (Split Ratio)) (d : Division) → d ≡ division_of r → d.outcome ≡ O.Done → Made r d
+division-fine : (r : Ran ℕ (Split Ratio)) (d : Division) → d ≡ division_of r → d.outcome ≡ no_refusal → Made r d
 division-fine (fine k s) d e o = record { quotient = s.quotient; is = rw (e, terms-of-poly s.rest) }
 division-fine (over k) d e o = absurd (let n : ◌≡◌ {A = ℕ} 0 1 = cc in omega arith)
 
@@ -118,7 +118,7 @@ onward-none a b [] inner k h = refl
 onward-none a b (r ∷ rest) inner k h = absurd (omega arith)
 
 module _ (a b : List Ratio) (h : 2 ≤ length b) (d : Division) (e : d ≡ divided_of a b) where
-  pub division-refused : (why : Reason) → d.outcome ≡ O.Refused why → no_number d.steps ≡ number_of (ordered plain (length b) a b 0)
+  pub division-refused : (why : Reason) → d.outcome ≡ Err why → no_number d.steps ≡ number_of (ordered plain (length b) a b 0)
   division-refused why o =
       let r = division-over (divided plain a b 0) d why (e ∙ some-divided a b (omega arith)) o in
       rw (division-first a b h, r)
@@ -126,7 +126,7 @@ module _ (a b : List Ratio) (h : 2 ≤ length b) (d : Division) (e : d ≡ divid
   pub division-few : length a ≤ 32 → length b ≤ length a → d.steps ≤ 2080
   division-few l m = division-cheap a b d (omega arith) e l (omega arith)
 
-  module _ (o : d.outcome ≡ O.Done) where
+  module _ (o : d.outcome ≡ no_refusal) where
     made : Made (divided plain a b 0) d
     made = division-fine (divided plain a b 0) d (e ∙ some-divided a b (omega arith)) o
 
@@ -150,23 +150,23 @@ module _ (a b : List Ratio) (h : 2 ≤ length b) (d : Division) (e : d ≡ divid
       power-few =
           omega (arith, number-steps (powered plain (lead plain b) (length a - length (terms_of d.rest)) (unit plain) 0) p q, powered-price (lead plain b) (length a - length (terms_of d.rest)) (unit plain) 0)
 
-      pub power-refused : (why : Reason) → p.outcome ≡ O.Refused why → no_number (d.steps + p.steps) ≡ number_of (ordered plain (length b) a b 0)
+      pub power-refused : (why : Reason) → p.outcome ≡ Err why → no_number (d.steps + p.steps) ≡ number_of (ordered plain (length b) a b 0)
       power-refused why u =
           let r = number-over (powered plain (lead plain b) (length a - length (terms_of d.rest)) (unit plain) 0) p why q u in
           rw (after-rest, r)
 
-      module _ (u : p.outcome ≡ O.Done) (s : Number) (v : s ≡ number_of (ordered plain (length (terms_of d.rest)) b (terms_of d.rest) 0)) where
+      module _ (u : p.outcome ≡ no_refusal) (s : Number) (v : s ≡ number_of (ordered plain (length (terms_of d.rest)) b (terms_of d.rest) 0)) where
         after-power : ordered plain (length b) a b 0 ≡ and_then (shift (d.steps + p.steps) (ordered plain (length (terms_of d.rest)) b (terms_of d.rest) 0)) (λ log sub. joined plain (signed plain (degree_of a * degree_of b)) p.value sub log)
         after-power =
             let r = number-fine (powered plain (lead plain b) (length a - length (terms_of d.rest)) (unit plain) 0) p q u in
             (rw r at after-rest) ∙ ap (λ (x : Ran ℕ Ratio). and_then x (λ log sub. joined plain (signed plain (degree_of a * degree_of b)) p.value sub log)) (ordered-shift (d.steps + p.steps) (length (terms_of d.rest)) b (terms_of d.rest))
 
-        pub inner-refused : (why : Reason) → s.outcome ≡ O.Refused why → no_number (d.steps + p.steps + s.steps) ≡ number_of (ordered plain (length b) a b 0)
+        pub inner-refused : (why : Reason) → s.outcome ≡ Err why → no_number (d.steps + p.steps + s.steps) ≡ number_of (ordered plain (length b) a b 0)
         inner-refused why w =
             let r = number-over (ordered plain (length (terms_of d.rest)) b (terms_of d.rest) 0) s why v w in
             rw (after-power, r)
 
-        pub all_made : s.outcome ≡ O.Done → (n m l : ℕ) (x : Ratio) (z : Number) → n ≡ length a → m ≡ length b → l ≡ n - 1 → x ≡ whole_r (sign_of (l * (m - 1))) → z ≡ number_of (joined plain x p.value s.value (d.steps + p.steps + s.steps)) → z ≡ number_of (ordered plain (length b) a b 0)
+        pub all_made : s.outcome ≡ no_refusal → (n m l : ℕ) (x : Ratio) (z : Number) → n ≡ length a → m ≡ length b → l ≡ n - 1 → x ≡ whole_r (sign_of (l * (m - 1))) → z ≡ number_of (joined plain x p.value s.value (d.steps + p.steps + s.steps)) → z ≡ number_of (ordered plain (length b) a b 0)
         all_made w n m l x z hn hm hl hx hz =
             let r = number-fine (ordered plain (length (terms_of d.rest)) b (terms_of d.rest) 0) s v w in
             let k : l ≡ length a - 1 = omega arith in

@@ -1,4 +1,5 @@
 -- Laws of powers and of the last two multiplications of a resultant: a loop that has made the first i products, its turn, its end and its refusal.
+use Rattle.std.specs.Prelude.{Ok, Err}
 use mathlib.Core.Path.{◌≡◌, refl, ap, ◌∙◌}
 use Prim.Native.Nat.{ℕ, suc, ◌+◌, ◌-◌, ◌<◌, ◌≤◌}
 use native.Mathlib.Numerals.{add-one}
@@ -7,7 +8,6 @@ use lib.IntN.{pos}
 use Rattle.ratio.specs.Step.{mul_of}
 use Rattle.ratio.specs.declared.Ratio.{Ratio}
 use Rattle.ratio.specs.declared.Reason.{Reason}
-use Rattle.ratio.specs.declared.Step.TheVariants.{Done, Refused}
 use Rattle.terms.specs.Machine.{fine, plain, whole_r}
 use Rattle.remainders.specs.Resultant.{unit, powered, joined}
 use Rattle.remainders.specs.Answer.{no_number, number_of}
@@ -23,13 +23,13 @@ module _ (c : Ratio) (k : ℕ) where
       record { whole = rw s refl }
 
   module _ (i : ℕ) (r : Ratio) (h : i < k) (v : Powered i r) where
-    pub powered-more : (s : Ratio) → mul_of r c ≡ Done s → Powered (i + 1) s
+    pub powered-more : (s : Ratio) → mul_of r c ≡ Ok s → Powered (i + 1) s
     unfolding powered
     powered-more s e =
         let n : k - i ≡ suc (k - suc i) = omega arith in
         record { whole = rw (add-one i) (rw (n, e) at v.whole) }
 
-    pub powered-over : (why : Reason) → mul_of r c ≡ Refused why → no_number (i + 1) ≡ number_of (powered plain c k (unit plain) 0)
+    pub powered-over : (why : Reason) → mul_of r c ≡ Err why → no_number (i + 1) ≡ number_of (powered plain c k (unit plain) 0)
     unfolding powered
     powered-over why e =
         let n : k - i ≡ suc (k - suc i) = omega arith in
@@ -43,15 +43,15 @@ module _ (c : Ratio) (k : ℕ) where
       ap (λ (x : ℕ). number_of (fine x r)) e ∙ ap number_of (rw n at v.whole)
 
 module _ (s p x : Ratio) (k : ℕ) where
-  pub first-over : (why : Reason) → mul_of s p ≡ Refused why → no_number (k + 1) ≡ number_of (joined plain s p x k)
+  pub first-over : (why : Reason) → mul_of s p ≡ Err why → no_number (k + 1) ≡ number_of (joined plain s p x k)
   first-over why e = rw (e, add-one k)
 
-  pub second-over : (t : Ratio) (why : Reason) → mul_of s p ≡ Done t → mul_of t x ≡ Refused why → no_number (k + 2) ≡ number_of (joined plain s p x k)
+  pub second-over : (t : Ratio) (why : Reason) → mul_of s p ≡ Ok t → mul_of t x ≡ Err why → no_number (k + 2) ≡ number_of (joined plain s p x k)
   second-over t why e f =
       let n : k + 2 ≡ suc (suc k) = omega arith in
       rw (e, f, n)
 
-  pub joined-all : (t r : Ratio) → mul_of s p ≡ Done t → mul_of t x ≡ Done r → number_of (fine (k + 2) r) ≡ number_of (joined plain s p x k)
+  pub joined-all : (t r : Ratio) → mul_of s p ≡ Ok t → mul_of t x ≡ Ok r → number_of (fine (k + 2) r) ≡ number_of (joined plain s p x k)
   joined-all t r e f =
       let n : k + 2 ≡ suc (suc k) = omega arith in
       rw (e, f, n)

@@ -1,4 +1,5 @@
 -- Laws of resultant and discriminant: the run by the lengths, from what the parts tell, each counted from 0; and bounds of their steps.
+use Rattle.std.specs.Prelude.{Ok, Err}
 use mathlib.Core.Path.{◌≡◌, refl, sym, ap, ◌∙◌}
 use mathlib.Core.Bool.{Bool, true, false}
 use mathlib.Core.List.{List, [], ◌∷◌}
@@ -10,12 +11,10 @@ use borrow.Author.Tests.{lt-ltb, le-ltb}
 use lib.Dec.{ltb}
 use lib.IntN.{pos}
 use lib.ListN.{length, get_or}
-use Rattle.ratio.specs.Refusal.{zero_r, ratio_of}
+use Rattle.ratio.specs.Refusal.{zero_r, ratio_of, no_refusal}
 use Rattle.ratio.specs.Step.{mul_of, inv_of}
-use Rattle.ratio.specs.declared.Outcome.TheVariants as O
 use Rattle.ratio.specs.declared.Ratio.{Ratio}
 use Rattle.ratio.specs.declared.Reason.{Reason}
-use Rattle.ratio.specs.declared.Step.TheVariants.{Done, Refused}
 use Rattle.terms.specs.declared.Answer.{Answer}
 use Rattle.terms.specs.Poly.{terms_of, trim}
 use Rattle.terms.specs.Machine.{Ran, fine, over, and_then, counted, plain, whole_r}
@@ -88,21 +87,21 @@ right-constant-told a b x n p h l hx hn q = (rw (hx, hn) at q) ∙ ap number_of 
 
 -- the other order, and one multiplication by the sign
 module _ (a b : List Ratio) (h : 2 ≤ length a) (l : length a < length b) (r : Number) (e : r ≡ number_of (ordered plain (length a) b a 0)) where
-  pub swapped-refused : (why : Reason) → r.outcome ≡ O.Refused why → no_number r.steps ≡ number_of (resultant_of plain a b 0)
+  pub swapped-refused : (why : Reason) → r.outcome ≡ Err why → no_number r.steps ≡ number_of (resultant_of plain a b 0)
   swapped-refused why o =
       let q = number-over (ordered plain (length a) b a 0) r why e o in
       rw (swapped-is a b h l, q)
 
-  module _ (o : r.outcome ≡ O.Done) (n m : ℕ) (x : Ratio) (hn : n ≡ length a) (hm : m ≡ length b) (hx : x ≡ whole_r (sign_of ((n - 1) * (m - 1)))) where
+  module _ (o : r.outcome ≡ no_refusal) (n m : ℕ) (x : Ratio) (hn : n ≡ length a) (hm : m ≡ length b) (hx : x ≡ whole_r (sign_of ((n - 1) * (m - 1)))) where
     multiplied : resultant_of plain a b 0 ≡ counted r.steps (mul_of r.value x)
     multiplied =
         let q = number-fine (ordered plain (length a) b a 0) r e o in
         rw (hx, hn, hm) (rw q at (swapped-is a b h l))
 
-    pub sign-refused : (why : Reason) → mul_of r.value x ≡ Refused why → no_number (r.steps + 1) ≡ number_of (resultant_of plain a b 0)
+    pub sign-refused : (why : Reason) → mul_of r.value x ≡ Err why → no_number (r.steps + 1) ≡ number_of (resultant_of plain a b 0)
     sign-refused why q = rw (multiplied, q, add-one r.steps)
 
-    pub sign-made : (y : Ratio) → mul_of r.value x ≡ Done y → number_of (fine (r.steps + 1) y) ≡ number_of (resultant_of plain a b 0)
+    pub sign-made : (y : Ratio) → mul_of r.value x ≡ Ok y → number_of (fine (r.steps + 1) y) ≡ number_of (resultant_of plain a b 0)
     sign-made y q = rw (multiplied, q, add-one r.steps)
 
 -- ---- the discriminant
@@ -127,7 +126,7 @@ derivative-first (x ∷ y ∷ f) h =
     let m : suc (suc (length f)) - 2 ≡ length f = omega arith in
     rw (n, m)
 
-answer-over : (r : Ran ℕ (List Ratio)) (x : Answer) (why : Reason) → x ≡ answer_of r → x.outcome ≡ O.Refused why → r ≡ over x.steps
+answer-over : (r : Ran ℕ (List Ratio)) (x : Answer) (why : Reason) → x ≡ answer_of r → x.outcome ≡ Err why → r ≡ over x.steps
 answer-over (fine k l) x why e o = absurd (let n : ◌≡◌ {A = ℕ} 0 1 = cc in omega arith)
 answer-over (over k) x why e o = ap over (sym (ap (λ (n : Answer). n.steps) e))
 
@@ -136,12 +135,12 @@ record Worked (r : Ran ℕ (List Ratio)) (x : Answer) : Type 0 where
   is : r ≡ fine x.steps got
   terms : trim got ≡ terms_of x.poly
 
-answer-fine : (r : Ran ℕ (List Ratio)) (x : Answer) → x ≡ answer_of r → x.outcome ≡ O.Done → Worked r x
+answer-fine : (r : Ran ℕ (List Ratio)) (x : Answer) → x ≡ answer_of r → x.outcome ≡ no_refusal → Worked r x
 answer-fine (fine k l) x e o = record { got = l; is = rw e; terms = rw e (sym (terms-of-poly (trim l))) }
 answer-fine (over k) x e o = absurd (let n : ◌≡◌ {A = ℕ} 0 1 = cc in omega arith)
 
 module _ (f : List Ratio) (h : 2 ≤ length f) (d : Answer) (e : d ≡ answer_of (derived plain f 0)) where
-  pub derivative-refused : (why : Reason) → d.outcome ≡ O.Refused why → no_number d.steps ≡ number_of (discriminant_of plain f 0)
+  pub derivative-refused : (why : Reason) → d.outcome ≡ Err why → no_number d.steps ≡ number_of (discriminant_of plain f 0)
   derivative-refused why o =
       let q = answer-over (derived plain f 0) d why e o in
       rw (derivative-first f h, q)
@@ -151,18 +150,18 @@ module _ (f : List Ratio) (h : 2 ≤ length f) (d : Answer) (e : d ≡ answer_of
       let q : d.steps ≡ steps_of (derived plain f 0) = ap (λ (x : Answer). x.steps) e ∙ answer-steps (derived plain f 0) in
       omega (arith, derived-few f 0)
 
-  module _ (o : d.outcome ≡ O.Done) (r : Number) (v : r ≡ number_of (resultant_of plain f (terms_of d.poly) 0)) where
+  module _ (o : d.outcome ≡ no_refusal) (r : Number) (v : r ≡ number_of (resultant_of plain f (terms_of d.poly) 0)) where
     after-derivative : discriminant_of plain f 0 ≡ and_then (shift d.steps (resultant_of plain f (terms_of d.poly) 0)) (λ log r. joined plain (signed plain ((length f - 1) * (length f - 2) / 2)) r (ratio_of (inv_of (lead plain f))) log)
     after-derivative =
         let w = answer-fine (derived plain f 0) d e o in
         (rw (w.is, w.terms) at (derivative-first f h)) ∙ ap (λ (x : Ran ℕ Ratio). and_then x (λ log r. joined plain (signed plain ((length f - 1) * (length f - 2) / 2)) r (ratio_of (inv_of (lead plain f))) log)) (resultant_of-shift d.steps f (terms_of d.poly))
 
-    pub resultant-refused : (why : Reason) → r.outcome ≡ O.Refused why → no_number (d.steps + r.steps) ≡ number_of (discriminant_of plain f 0)
+    pub resultant-refused : (why : Reason) → r.outcome ≡ Err why → no_number (d.steps + r.steps) ≡ number_of (discriminant_of plain f 0)
     resultant-refused why u =
         let q = number-over (resultant_of plain f (terms_of d.poly) 0) r why v u in
         rw (after-derivative, q)
 
-    pub discriminant-made : r.outcome ≡ O.Done → (n : ℕ) (x i p : Ratio) (z : Number) → n ≡ length f → x ≡ whole_r (sign_of ((n - 1) * (n - 2) / 2)) → p ≡ lead plain f → i ≡ ratio_of (inv_of p) → z ≡ number_of (joined plain x r.value i (d.steps + r.steps)) → z ≡ number_of (discriminant_of plain f 0)
+    pub discriminant-made : r.outcome ≡ no_refusal → (n : ℕ) (x i p : Ratio) (z : Number) → n ≡ length f → x ≡ whole_r (sign_of ((n - 1) * (n - 2) / 2)) → p ≡ lead plain f → i ≡ ratio_of (inv_of p) → z ≡ number_of (joined plain x r.value i (d.steps + r.steps)) → z ≡ number_of (discriminant_of plain f 0)
     discriminant-made u n x i p z hn hx hp hi hz =
         let q = number-fine (resultant_of plain f (terms_of d.poly) 0) r v u in
         let k = rw q at after-derivative in

@@ -1,4 +1,5 @@
 -- An answered division is the textbook's: a = q b + r with r of lower degree than b.
+use Rattle.std.specs.Prelude.{Ok}
 use mathlib.Core.Path.{◌≡◌, refl, sym, ap, ap₂, subst, ◌∙◌}
 use mathlib.Core.Bool.{Bool, true, false}
 use mathlib.Core.List.{List, [], ◌∷◌}
@@ -25,7 +26,6 @@ use Rattle.ratio.specs.Promise.{rat, Lowest}
 use Rattle.ratio.specs.Refusal.{zero_r, ratio_of}
 use Rattle.ratio.specs.Step.{is_nil, inv_of, lowest}
 use Rattle.ratio.specs.declared.Ratio.{Ratio}
-use Rattle.ratio.specs.declared.Step.TheVariants.{Done}
 use Rattle.ratio.proofs.Fractions.{nil-some}
 use Rattle.ratio.proofs.Steps.{value, inv-value, inv-is}
 use Rattle.terms.specs.Machine.{minus, times, fine, plain}
@@ -63,7 +63,7 @@ one-term p b k m d h i l = add_at ℚ-ring p _ i ∙ ap (λ z. p.0 i +ℚ z) (ne
 -- the inverse of a fraction that is not zero
 pub inverse-value : (r : Ratio) → Lowest r → is_nil r.num ≡ false → value (ratio_of (inv_of r)) ≡ invℚ (value r)
 inverse-value r l e =
-    let i : inv_of r ≡ Done (lowest r.den r.num) = inv-is r l.fraction (nil-some r.num e) in
+    let i : inv_of r ≡ Ok (lowest r.den r.num) = inv-is r l.fraction (nil-some r.num e) in
     ap (λ s. value (ratio_of s)) i ∙ inv-value r _ i
 
 -- from k quotient terms left to none: nothing but the rest is left below the divisor's degree

@@ -1,7 +1,6 @@
 -- Document 01, module 4: what the work of division and of resultants answers; the steps are reported with every answer.
-use Rattle.std.specs.Prelude.{List, [], ◌∷◌, ℕ}
-use Rattle.ratio.specs.Refusal.{zero_r}
-use Rattle.ratio.specs.declared.Outcome.TheVariants as O
+use Rattle.std.specs.Prelude.{List, [], ◌∷◌, ℕ, Ok, Err}
+use Rattle.ratio.specs.Refusal.{zero_r, no_refusal}
 use Rattle.ratio.specs.declared.Ratio.{Ratio}
 use Rattle.ratio.specs.declared.Reason.{Reason}
 use Rattle.ratio.specs.declared.Reason.TheVariants.{CoeffOverflow, DivByZero}
@@ -12,10 +11,10 @@ use Rattle.remainders.specs.declared.Number.{Number}
 use Rattle.remainders.specs.Divide.{Split, divided}
 
 abbrev pub no_division : Reason → ℕ → Division
-no_division why k = record { outcome = O.Refused why; quotient = poly_of []; rest = poly_of []; steps = k }
+no_division why k = record { outcome = Err why; quotient = poly_of []; rest = poly_of []; steps = k }
 
 abbrev pub division_of : Ran ℕ (Split Ratio) → Division
-division_of (fine k s) = record { outcome = O.Done; quotient = poly_of s.quotient; rest = poly_of s.rest; steps = k }
+division_of (fine k s) = record { outcome = no_refusal; quotient = poly_of s.quotient; rest = poly_of s.rest; steps = k }
 division_of (over k) = no_division CoeffOverflow k
 
 -- a zero divisor is 3, also for a zero dividend
@@ -25,8 +24,8 @@ divided_of a (y ∷ b) = division_of (divided plain a (y ∷ b) 0)
 
 -- a fraction that was worked out, or why there is none
 abbrev pub no_number : ℕ → Number
-no_number k = record { outcome = O.Refused CoeffOverflow; value = zero_r; steps = k }
+no_number k = record { outcome = Err CoeffOverflow; value = zero_r; steps = k }
 
 abbrev pub number_of : Ran ℕ Ratio → Number
-number_of (fine k r) = record { outcome = O.Done; value = r; steps = k }
+number_of (fine k r) = record { outcome = no_refusal; value = r; steps = k }
 number_of (over k) = no_number k

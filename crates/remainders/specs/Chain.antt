@@ -1,11 +1,10 @@
 -- Document 01, module 4, the written chain: the list of steps with their operands, in the original's order of work. The number reported is its length.
-use Rattle.std.specs.Prelude.{List, [], ◌∷◌, ◌++◌, ◌≡◌, ℕ, suc, ◌<◌, ℤ, pos, length, get_or}
+use Rattle.ratio.specs.declared.Reason.{Reason}
+use Rattle.std.specs.Prelude.{List, [], ◌∷◌, ◌++◌, ◌≡◌, ℕ, suc, ◌<◌, ℤ, pos, length, get_or, Result, Ok, Err}
 use Rattle.ratio.specs.Refusal.{ratio_of, zero_r}
 use Rattle.ratio.specs.Step.{inv_of}
 use Rattle.ratio.specs.declared.Ratio.{Ratio}
 use Rattle.ratio.specs.declared.Reason.TheVariants.{CoeffOverflow}
-use Rattle.ratio.specs.declared.Step.{Step}
-use Rattle.ratio.specs.declared.Step.TheVariants.{Done, Refused}
 use Rattle.terms.specs.Machine.{Op, plus, Ran, fine, over, Machine, step_of, whole_r}
 
 -- where an operand comes from: coefficient i of the first or the second input, a constant (0, a sign, 1, an index), the inverse of one of these, or the result of an earlier step
@@ -27,9 +26,9 @@ pub record Written : Type 0 where
   pub right : Name
 
 -- step number k, counted from 0, is written at the chain's end, and its result is named after it
-abbrev pub noted : List Written → Written → Step → Ran (List Written) Wire
-noted log w (Done r) = fine (log ++ (w ∷ [])) (record { name = result (length log); value = r })
-noted log w (Refused why) = over (log ++ (w ∷ []))
+abbrev pub noted : List Written → Written → Result Ratio Reason → Ran (List Written) Wire
+noted log w (Ok r) = fine (log ++ (w ∷ [])) (record { name = result (length log); value = r })
+noted log w (Err why) = over (log ++ (w ∷ []))
 
 abbrev pub writer : Machine Wire (List Written)
 writer = record {
@@ -71,7 +70,7 @@ module _ (a b : List Ratio) where
   Earlier k (inverse n) = Earlier k n
   Earlier k (result j) = j < k
 
-  abbrev pub performed : List Written → List Ratio → ℕ → Step
+  abbrev pub performed : List Written → List Ratio → ℕ → Result Ratio Reason
   performed chain results k =
       let w = get_or chain k nothing in
       step_of w.op (meaning results w.left) (meaning results w.right)
@@ -79,7 +78,7 @@ module _ (a b : List Ratio) where
   -- every step names what came before it and has the result that is listed for it
   pub record Faithful (chain : List Written) (results : List Ratio) : Type 0 where
     pub earlier : (k : ℕ) → k < length chain → Earlier k (get_or chain k nothing).left × Earlier k (get_or chain k nothing).right
-    pub answered : (k : ℕ) → k < length results → performed chain results k ≡ Done (get_or results k zero_r)
+    pub answered : (k : ℕ) → k < length results → performed chain results k ≡ Ok (get_or results k zero_r)
 
   -- a chain that ended in an answer: every step was answered, and the answer's numbers are named by it
   pub record Finished (chain : List Written) (answer : List Wire) : Type 0 where
@@ -94,4 +93,4 @@ module _ (a b : List Ratio) where
     pub results : List Ratio
     pub all_but_one : suc (length results) ≡ length chain
     pub faithful : Faithful chain results
-    pub refused : performed chain results (length results) ≡ Refused CoeffOverflow
+    pub refused : performed chain results (length results) ≡ Err CoeffOverflow

@@ -14,13 +14,13 @@ ghost use Rattle.remainders.specs.Gcd.{monic as monic_of, gcd_of, freed, square_
 ghost use Rattle.remainders.specs.Resultant.{sign_of, powered, joined, ordered as ordered_of, resultant_of, discriminant_of, unit};
 ghost use Rattle.remainders.specs.Answer.{no_division, divided_of, no_number, number_of};
 
-use ratio::{Outcome, Ratio, Reason, Step};
+use ratio::{Ratio, Reason};
 use terms::{Answer, Poly};
 
 // Quotient and rest.
 #[derive(Clone, Copy)]
 pub struct Division {
-    pub outcome: Outcome,
+    pub outcome: Result<(), Reason>,
     pub quotient: Poly,
     pub rest: Poly,
     pub steps: u64,
@@ -29,7 +29,7 @@ pub struct Division {
 // A fraction that was worked out.
 #[derive(Clone, Copy)]
 pub struct Number {
-    pub outcome: Outcome,
+    pub outcome: Result<(), Reason>,
     pub value: Ratio,
     pub steps: u64,
 }
@@ -38,7 +38,7 @@ pub fn no_division(why: Reason, steps: u64) -> Division
     ensures is { result ≡ no_division why steps }
 {
     Division {
-        outcome: Outcome::Refused(why),
+        outcome: Err(why),
         quotient: Poly::zero(),
         rest: Poly::zero(),
         steps,
@@ -49,7 +49,7 @@ fn no_number(steps: u64) -> Number
     ensures { result ≡ no_number steps }
 {
     Number {
-        outcome: Outcome::Refused(Reason::CoeffOverflow),
+        outcome: Err(Reason::CoeffOverflow),
         value: whole(0),
         steps,
     }
@@ -59,7 +59,7 @@ fn worked(value: Ratio, steps: u64) -> Number
     ensures { result ≡ number_of (fine steps value) }
 {
     Number {
-        outcome: Outcome::Done,
+        outcome: Ok(()),
         value,
         steps,
     }
@@ -83,7 +83,7 @@ fn lead(p: Poly) -> Ratio
 fn inverse(r: Ratio) -> Ratio
     ensures { result ≡ ratio_of (inv_of r) }
 {
-    let Step::Done(i) = ratio::inverse(r) else {
+    let Ok(i) = ratio::inverse(r) else {
         return whole(0);
     };
     i
@@ -106,7 +106,7 @@ fn quotients(a: Poly, b: Poly) -> Division
     while k > 0 {
         k -= 1;
         let c = rem[k + m - 1];
-        let Step::Done(t) = ratio::checked_mul(c, inv) else {
+        let Ok(t) = ratio::checked_mul(c, inv) else {
             return no_division(Reason::CoeffOverflow, steps + 1);
         };
         let row = terms::row_for(rem, k, t, b, true, steps + 1);
@@ -126,7 +126,7 @@ fn quotients(a: Poly, b: Poly) -> Division
         len: m - 1,
     };
     Division {
-        outcome: Outcome::Done,
+        outcome: Ok(()),
         quotient: quotient.normalise(),
         rest: rest.normalise(),
         steps,
@@ -144,7 +144,7 @@ pub fn divide(a: Poly, b: Poly) -> Division
     }
     if n < m {
         return Division {
-            outcome: Outcome::Done,
+            outcome: Ok(()),
             quotient: Poly::zero(),
             rest: a.normalise(),
             steps: 0,
@@ -187,7 +187,7 @@ pub fn greatest(a: Poly, b: Poly) -> Answer
         let d = divide(u, v);
         steps += d.steps;
         let o = d.outcome;
-        if let Outcome::Refused(_) = o {
+        if let Err(_) = o {
             return terms::refused(Reason::CoeffOverflow, steps);
         }
         u = v;
@@ -205,7 +205,7 @@ fn free_of(f: Poly, g: Poly) -> Answer
     }
     let d = divide(f, g);
     let o = d.outcome;
-    if let Outcome::Refused(_) = o {
+    if let Err(_) = o {
         return terms::refused(Reason::CoeffOverflow, d.steps);
     }
     let rest = d.rest;
@@ -225,13 +225,13 @@ pub fn free_part(f: Poly) -> Answer
     }
     let d = f.differentiate();
     let od = d.outcome;
-    if let Outcome::Refused(_) = od {
+    if let Err(_) = od {
         return terms::refused(Reason::CoeffOverflow, d.steps);
     }
     let df = d.poly;
     let g = greatest(f, df);
     let og = g.outcome;
-    if let Outcome::Refused(_) = og {
+    if let Err(_) = og {
         return terms::refused(Reason::CoeffOverflow, d.steps + g.steps);
     }
     let gp = g.poly;
@@ -248,7 +248,7 @@ fn power(c: Ratio, k: usize) -> Number
     let mut r = whole(1);
     let mut i: usize = 0;
     while i < k {
-        let Step::Done(s) = ratio::checked_mul(r, c) else {
+        let Ok(s) = ratio::checked_mul(r, c) else {
             return no_number((i as u64) + 1);
         };
         r = s;
@@ -269,10 +269,10 @@ fn join(sign: Ratio, power: Ratio, inner: Ratio, steps: u64) -> Number
     requires { steps ≤ 65536 }
     ensures { result ≡ number_of (joined plain sign power inner steps) }
 {
-    let Step::Done(t) = ratio::checked_mul(sign, power) else {
+    let Ok(t) = ratio::checked_mul(sign, power) else {
         return no_number(steps + 1);
     };
-    let Step::Done(r) = ratio::checked_mul(t, inner) else {
+    let Ok(r) = ratio::checked_mul(t, inner) else {
         return no_number(steps + 2);
     };
     worked(r, steps + 2)
@@ -294,7 +294,7 @@ fn ordered(a: Poly, b: Poly) -> Number
     }
     let d = divide(a, b);
     let o = d.outcome;
-    if let Outcome::Refused(_) = o {
+    if let Err(_) = o {
         return no_number(d.steps);
     }
     let rest = d.rest;
@@ -304,12 +304,12 @@ fn ordered(a: Poly, b: Poly) -> Number
     }
     let p = power(lead(b), terms::less(n, k));
     let op = p.outcome;
-    if let Outcome::Refused(_) = op {
+    if let Err(_) = op {
         return no_number(d.steps + p.steps);
     }
     let s = ordered(b, rest);
     let os = s.outcome;
-    if let Outcome::Refused(_) = os {
+    if let Err(_) = os {
         return no_number(d.steps + p.steps + s.steps);
     }
     let total = d.steps + p.steps + s.steps;
@@ -352,10 +352,10 @@ fn swapped(a: Poly, b: Poly) -> Number
     let m = b.length();
     let r = ordered(b, a);
     let o = r.outcome;
-    if let Outcome::Refused(_) = o {
+    if let Err(_) = o {
         return no_number(r.steps);
     }
-    let Step::Done(s) = ratio::checked_mul(r.value, sign((n - 1) * (m - 1))) else {
+    let Ok(s) = ratio::checked_mul(r.value, sign((n - 1) * (m - 1))) else {
         return no_number(r.steps + 1);
     };
     worked(s, r.steps + 1)
@@ -374,13 +374,13 @@ pub fn discriminant_ratio(f: Poly) -> Number
     }
     let d = f.differentiate();
     let od = d.outcome;
-    if let Outcome::Refused(_) = od {
+    if let Err(_) = od {
         return no_number(d.steps);
     }
     let df = d.poly;
     let r = resultant_ratio(f, df);
     let o = r.outcome;
-    if let Outcome::Refused(_) = o {
+    if let Err(_) = o {
         return no_number(d.steps + r.steps);
     }
     let sg = sign((n - 1) * (n - 2) / 2);

@@ -1,9 +1,9 @@
 -- Answers by example: document 01's own, a refused job, a division by zero, factors with a content.
+use Rattle.std.specs.Prelude.{Ok}
 use mathlib.Core.Path.{◌≡◌, refl}
 use mathlib.Core.List.{[], ◌∷◌}
 use lib.IntN.{pos, negsuc}
-use Rattle.ratio.specs.Refusal.{zero_r}
-use Rattle.ratio.specs.declared.Outcome.TheVariants as O
+use Rattle.ratio.specs.Refusal.{zero_r, no_refusal}
 use Rattle.ratio.specs.declared.Ratio.{Ratio}
 use Rattle.ratio.specs.declared.Reason.TheVariants.{DivByZero, Malformed}
 use Rattle.terms.specs.Machine.{whole_r}
@@ -33,6 +33,6 @@ division-shown = refl
 half : Ratio
 half = record { num = pos 1; den = pos 2 }
 
-factors-shown : factors_text Factor (record { outcome = O.Done; content = half; pieces = piece (zero_r ∷ whole_r (pos 1) ∷ []) 2 ∷ piece (half ∷ whole_r (pos 1) ∷ []) 1 ∷ []; len = 2 }) ≡ bytes "op=factor\nstatus=0\nout=1/2 ; 0 1 ^ 2 ; 1/2 1 ^ 1\nrest=\nsteps=\n"
+factors-shown : factors_text Factor (record { outcome = no_refusal; content = half; pieces = piece (zero_r ∷ whole_r (pos 1) ∷ []) 2 ∷ piece (half ∷ whole_r (pos 1) ∷ []) 1 ∷ []; len = 2 }) ≡ bytes "op=factor\nstatus=0\nout=1/2 ; 0 1 ^ 2 ; 1/2 1 ^ 1\nrest=\nsteps=\n"
 unfolding half reply_text steps_text name_of decimal_in decimal_of whole_text ratio_text spaced parted ratios_text poly_text piece_text pieces_text
 factors-shown = refl

@@ -1,4 +1,5 @@
 -- The factors of any polynomial, at any budget, are few, so that their text fits.
+use Rattle.ratio.specs.Refusal.{status_of}
 use mathlib.Core.Bool.{Bool, true, false}
 use mathlib.Core.List.{List, [], ◌∷◌}
 use mathlib.Core.Path.{◌≡◌, refl, sym, ap, subst, ◌∙◌}
@@ -13,7 +14,6 @@ use Rattle.algebra.proofs.Rational.{ℚ-ring}
 use Rattle.algebra.proofs.Degree.{deg-not-nil}
 use Rattle.algebra.proofs.Lists.{poly-empty}
 use Rattle.algebra.proofs.ListWords.{degree-from, zero-to, zero-from}
-use Rattle.ratio.specs.Refusal.{outcome_status}
 use Rattle.ratio.specs.declared.Ratio.{Ratio}
 use Rattle.terms.specs.declared.Poly.{Poly}
 use Rattle.terms.specs.Meaning.{rats}
@@ -61,13 +61,13 @@ few-some f n l e h o = let r = spread (factors_in f) h o in record { pieces = om
 
 -- ---- of any polynomial
 
-answered-open : (p : Poly) (budget : ℕ) → outcome_status (factor_for p budget).outcome ≡ 0 → door_of p ≡ Open
+answered-open : (p : Poly) (budget : ℕ) → status_of (factor_for p budget).outcome ≡ 0 → door_of p ≡ Open
 answered-open p budget =
-    entered-keeps no_factors (λ r. outcome_status r.outcome ≡ 0 → door_of p ≡ Open) (both (door_of p) (budget_door budget)) (work_of p budget)
+    entered-keeps no_factors (λ r. status_of r.outcome ≡ 0 → door_of p ≡ Open) (both (door_of p) (budget_door budget)) (work_of p budget)
     (λ e s. (both-open (door_of p) (budget_door budget) e).0)
     (λ h why s. absurd (omega (arith, number-some why)))
 
-module _ (p : Poly) (f : Factorization) (h : FactorPromise p f) (s : outcome_status f.outcome ≡ 0) where
+module _ (p : Poly) (f : Factorization) (h : FactorPromise p f) (s : status_of f.outcome ≡ 0) where
   by-terms : (t : List Ratio) → terms_of p ≡ t → Canonical t → length t ≤ 32 → Few f
   by-terms [] e c l = few-none f (h.of_zero s (zero-from (reading p) (ap poly_r e ∙ poly-empty)))
   by-terms (x ∷ t) e c l =
@@ -77,17 +77,17 @@ module _ (p : Poly) (f : Factorization) (h : FactorPromise p f) (s : outcome_sta
       few-some f (length t) (omega arith) (k.add-up (length t) d) k.parts k.occur
 
 pub few-factors : (p : Poly) (budget : ℕ) → Few (factor_for p budget)
-few-factors p budget = go (eqb (outcome_status (factor_for p budget).outcome) 0) refl
+few-factors p budget = go (eqb (status_of (factor_for p budget).outcome) 0) refl
   where
     h : FactorPromise p (factor_for p budget)
     h = factor-promise p budget
 
-    go : (t : Bool) → eqb (outcome_status (factor_for p budget).outcome) 0 ≡ t → Few (factor_for p budget)
+    go : (t : Bool) → eqb (status_of (factor_for p budget).outcome) 0 ≡ t → Few (factor_for p budget)
     go true e =
-        let s : outcome_status (factor_for p budget).outcome ≡ 0 = eqb-true (outcome_status (factor_for p budget).outcome) 0 e in
+        let s : status_of (factor_for p budget).outcome ≡ 0 = eqb-true (status_of (factor_for p budget).outcome) 0 e in
         let o = opened p (answered-open p budget s) in
         by-terms p (factor_for p budget) h s (terms_of p) refl o.canonical o.few
-    go false e = few-none (factor_for p budget) (h.refused (eqb-false (outcome_status (factor_for p budget).outcome) 0 e)).0
+    go false e = few-none (factor_for p budget) (h.refused (eqb-false (status_of (factor_for p budget).outcome) 0 e)).0
 
 -- the text of what is a polynomial's factorization fits
 pub factored-fits : (op : Op) (f : Factorization) (p : Poly) (budget : ℕ) → f ≡ factor_for p budget → Fits (factors_text op f)

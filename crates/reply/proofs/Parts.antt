@@ -1,4 +1,5 @@
 -- An answer, as it is laid part after part.
+use Rattle.std.specs.Prelude.{Ok, Err}
 use mathlib.Core.Path.{◌≡◌, refl, sym}
 use mathlib.Core.Bool.{true, false}
 use mathlib.Core.List.{List, [], ◌∷◌, ◌++◌, append-nil, append_assoc}
@@ -6,9 +7,7 @@ use Prim.Native.Nat.{ℕ, ◌+◌, ◌<◌}
 use native.Mathlib.Numerals.{add-one}
 use lib.ListN.{length, take, get_or}
 use lib.Seq.{take-suc}
-use Rattle.ratio.specs.Refusal.{number_of}
-use Rattle.ratio.specs.declared.Outcome.{Outcome}
-use Rattle.ratio.specs.declared.Outcome.TheVariants as O
+use Rattle.ratio.specs.Refusal.{number_of, Outcome, no_refusal}
 use Rattle.ratio.specs.declared.Reason.{Reason}
 use Rattle.yun.specs.declared.Piece.{Piece}
 use Rattle.text.specs.Ascii.{bytes}
@@ -32,13 +31,13 @@ module _ (op : Op) (k : ℕ) where
   no_part why = one-part (number_of why) []
 
 module _ (op : Op) (k : ℕ) (o : Outcome) (out rest : List ℕ) (at : ℕ) (page : List ℕ) {next : ℕ} {now : List ℕ} where
-  pub shows-refused : (why : Reason) → o ≡ O.Refused why → Lays (refused_text op why k) at page next now → Lays (shown op o out rest k) at page next now
+  pub shows-refused : (why : Reason) → o ≡ Err why → Lays (refused_text op why k) at page next now → Lays (shown op o out rest k) at page next now
   shows-refused why e h = rw e h
 
-  pub shows-both : o ≡ O.Done → Lays (begin_text op 0 ++ (out ++ (bytes "\nrest=" ++ (rest ++ finish_text op k)))) at page next now → Lays (shown op o out rest k) at page next now
+  pub shows-both : o ≡ no_refusal → Lays (begin_text op 0 ++ (out ++ (bytes "\nrest=" ++ (rest ++ finish_text op k)))) at page next now → Lays (shown op o out rest k) at page next now
   shows-both e h = rw e (lays-as _ _ _ _ (both-parts op k 0 out rest) h)
 
-  pub shows-one : o ≡ O.Done → Lays (begin_text op 0 ++ (out ++ end_text op k)) at page next now → Lays (shown op o out [] k) at page next now
+  pub shows-one : o ≡ no_refusal → Lays (begin_text op 0 ++ (out ++ end_text op k)) at page next now → Lays (shown op o out [] k) at page next now
   shows-one e h = rw e (lays-as _ _ _ _ (one-part op k 0 out) h)
 
 pub counted-steps : (op : Op) (k : ℕ) → counted op ≡ true → decimal_of k ≡ steps_text op k

@@ -1,4 +1,5 @@
 -- How long an answer is.
+use Rattle.std.specs.Prelude.{Result, Ok, Err}
 use mathlib.Core.Path.{◌≡◌}
 use mathlib.Core.Bool.{Bool, true, false, cond}
 use mathlib.Core.List.{List, [], ◌∷◌, ◌++◌}
@@ -6,13 +7,9 @@ use Prim.Native.Nat.{ℕ, ◌+◌, ◌*◌, ◌≤◌}
 use native.Mathlib.Omega.{arith}
 use lib.Ieee.{Float}
 use lib.ListN.{length, take, length-append, length-take}
-use Rattle.ratio.specs.Refusal.{number_of}
-use Rattle.ratio.specs.declared.Outcome.{Outcome}
-use Rattle.ratio.specs.declared.Outcome.TheVariants as O
+use Rattle.ratio.specs.Refusal.{number_of, Outcome, no_refusal}
 use Rattle.ratio.specs.declared.Ratio.{Ratio}
 use Rattle.ratio.specs.declared.Reason.{Reason}
-use Rattle.ratio.specs.declared.Step.{Step}
-use Rattle.ratio.specs.declared.Step.TheVariants as S
 use Rattle.terms.specs.declared.Poly.{Poly}
 use Rattle.terms.specs.Poly.{terms_of}
 use Rattle.yun.specs.declared.Piece.{Piece}
@@ -61,8 +58,8 @@ unfolding reply_text
 reply-length op status k out rest = simp length-append (omega (arith, name-length op, decimal-length status, steps-length op k))
 
 pub shown-fits : (op : Op) (o : Outcome) (k : ℕ) (out rest : List ℕ) → length out + length rest ≤ 4000 → Fits (shown op o out rest k)
-shown-fits op O.Done k out rest h = omega (arith, reply-length op 0 k out rest)
-shown-fits op (O.Refused why) k out rest h = omega (arith, reply-length op (number_of why) k [] [])
+shown-fits op (Ok _) k out rest h = omega (arith, reply-length op 0 k out rest)
+shown-fits op (Err why) k out rest h = omega (arith, reply-length op (number_of why) k [] [])
 
 pub refused-fits : (op : Op) (why : Reason) (k : ℕ) → Fits (refused_text op why k)
 refused-fits op why k = omega (arith, reply-length op (number_of why) k [] [])
@@ -81,9 +78,9 @@ ratios-room n l e = omega (arith, ratios-length (take n l), taken n 32 l e)
 pub floats-room : (n : ℕ) (l : List Float) → length l ≡ 64 → length (floats_text (take n l)) ≤ 1088
 floats-room n l e = omega (arith, floats-length (take n l), taken n 64 l e)
 
-pub value-fits : (op : Op) (s : Step) → Fits (value_text op s)
-value-fits op (S.Done r) = shown-fits op O.Done 0 (ratio_text r) [] (omega (arith, ratio-length r))
-value-fits op (S.Refused why) = refused-fits op why 0
+pub value-fits : (op : Op) (s : Result Ratio Reason) → Fits (value_text op s)
+value-fits op (Ok r) = shown-fits op no_refusal 0 (ratio_text r) [] (omega (arith, ratio-length r))
+value-fits op (Err why) = refused-fits op why 0
 
 piece-length : (p : Piece) → length (piece_text p) ≤ 44 * length (terms_of p.poly) + 27
 unfolding piece_text

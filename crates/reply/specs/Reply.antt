@@ -1,9 +1,7 @@
 -- Document 01, "the job program", output: op as read, status (a refusal number), out (the first result), rest (the second, else empty), steps (where they are reported, else empty). A refused job has out and rest empty.
-use Rattle.std.specs.Prelude.{cond, List, [], ◌∷◌, ◌++◌, ℕ}
+use Rattle.std.specs.Prelude.{cond, List, [], ◌∷◌, ◌++◌, ℕ, Ok, Err}
 use Prim.Native.String.{String}
-use Rattle.ratio.specs.Refusal.{number_of}
-use Rattle.ratio.specs.declared.Outcome.{Outcome}
-use Rattle.ratio.specs.declared.Outcome.TheVariants as O
+use Rattle.ratio.specs.Refusal.{number_of, Outcome}
 use Rattle.ratio.specs.declared.Reason.{Reason}
 use Rattle.text.specs.Ascii.{bytes}
 use Rattle.text.specs.Spell.{decimal_of}
@@ -27,8 +25,8 @@ refused_text op why k = reply_text op (number_of why) [] [] (steps_text op k)
 
 -- what is shown of an outcome, its two results and its steps
 abbrev pub shown : Op → Outcome → List ℕ → List ℕ → ℕ → List ℕ
-shown op O.Done out rest k = reply_text op 0 out rest (steps_text op k)
-shown op (O.Refused why) out rest k = refused_text op why k
+shown op (Ok _) out rest k = reply_text op 0 out rest (steps_text op k)
+shown op (Err why) out rest k = refused_text op why k
 
 -- a job that was refused before any work
 abbrev pub refusal_text : Op → Reason → List ℕ

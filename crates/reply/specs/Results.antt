@@ -1,8 +1,8 @@
 -- Document 01, "the job program": what each kind of result shows.
-use Rattle.std.specs.Prelude.{List, [], ◌∷◌, ◌++◌, ℕ, take}
-use Rattle.ratio.specs.declared.Outcome.TheVariants as O
-use Rattle.ratio.specs.declared.Step.{Step}
-use Rattle.ratio.specs.declared.Step.TheVariants as S
+use Rattle.ratio.specs.Refusal.{no_refusal}
+use Rattle.ratio.specs.declared.Reason.{Reason}
+use Rattle.ratio.specs.declared.Ratio.{Ratio}
+use Rattle.std.specs.Prelude.{List, [], ◌∷◌, ◌++◌, ℕ, take, Result, Ok, Err}
 use Rattle.terms.specs.declared.Answer.{Answer}
 use Rattle.terms.specs.Poly.{terms_of}
 use Rattle.remainders.specs.declared.Division.{Division}
@@ -32,9 +32,9 @@ abbrev pub number_text : Op → Whole → List ℕ
 number_text op w = shown op w.outcome (whole_text w.value) [] w.steps
 
 -- a value at a point
-abbrev pub value_text : Op → Step → List ℕ
-value_text op (S.Done r) = shown op O.Done (ratio_text r) [] 0
-value_text op (S.Refused why) = refusal_text op why
+abbrev pub value_text : Op → Result Ratio Reason → List ℕ
+value_text op (Ok r) = shown op no_refusal (ratio_text r) [] 0
+value_text op (Err why) = refusal_text op why
 
 -- rational roots
 abbrev pub roots_text : Op → Roots → List ℕ

@@ -14,7 +14,7 @@ use euclid::Whole;
 use factor::Factorization;
 use isolate::Isolation;
 use ops::Op;
-use ratio::{Outcome, Reason, Step};
+use ratio::{Ratio, Reason};
 use remainders::Division;
 use search::Roots;
 use sturm::Count;
@@ -117,12 +117,12 @@ pub fn show_answer(op: Op, a: Answer, out: &mut [u8], at: usize) -> usize
 {
     let o = a.outcome;
     match o {
-        Outcome::Done => {
+        Ok(()) => {
             let first = begin(op, 0, out, at);
             let behind = text::write_poly(a.poly, out, first);
             end(op, a.steps, out, behind)
         }
-        Outcome::Refused(why) => refuse(op, why, a.steps, out, at),
+        Err(why) => refuse(op, why, a.steps, out, at),
     }
 }
 
@@ -134,14 +134,14 @@ pub fn show_division(op: Op, d: Division, out: &mut [u8], at: usize) -> usize
 {
     let o = d.outcome;
     match o {
-        Outcome::Done => {
+        Ok(()) => {
             let first = begin(op, 0, out, at);
             let behind = text::write_poly(d.quotient, out, first);
             let second = text::write_bytes(b"\nrest=", out, behind);
             let last = text::write_poly(d.rest, out, second);
             finish(op, d.steps, out, last)
         }
-        Outcome::Refused(why) => refuse(op, why, d.steps, out, at),
+        Err(why) => refuse(op, why, d.steps, out, at),
     }
 }
 
@@ -153,28 +153,28 @@ pub fn show_whole(op: Op, w: Whole, out: &mut [u8], at: usize) -> usize
 {
     let o = w.outcome;
     match o {
-        Outcome::Done => {
+        Ok(()) => {
             let first = begin(op, 0, out, at);
             let behind = text::write_whole(w.value, out, first);
             end(op, w.steps, out, behind)
         }
-        Outcome::Refused(why) => refuse(op, why, w.steps, out, at),
+        Err(why) => refuse(op, why, w.steps, out, at),
     }
 }
 
 // A value at a point.
-pub fn show_step(op: Op, s: Step, out: &mut [u8], at: usize) -> usize
+pub fn show_step(op: Op, s: Result<Ratio, Reason>, out: &mut [u8], at: usize) -> usize
     ensures is { result ≡ after (value_text op s) at out.old }
     ensures page { out.new ≡ laid (value_text op s) at out.old }
     ensures fits { Fits (value_text op s) }
 {
     match s {
-        Step::Done(v) => {
+        Ok(v) => {
             let first = begin(op, 0, out, at);
             let behind = text::write_ratio(v, out, first);
             end(op, 0, out, behind)
         }
-        Step::Refused(why) => refuse(op, why, 0, out, at),
+        Err(why) => refuse(op, why, 0, out, at),
     }
 }
 
@@ -186,13 +186,13 @@ pub fn show_roots(op: Op, r: Roots, out: &mut [u8], at: usize) -> usize
 {
     let o = r.outcome;
     match o {
-        Outcome::Done => {
+        Ok(()) => {
             let first = begin(op, 0, out, at);
             let values = r.values;
             let behind = text::write_ratios(values, r.len, out, first);
             end(op, 0, out, behind)
         }
-        Outcome::Refused(why) => refuse(op, why, 0, out, at),
+        Err(why) => refuse(op, why, 0, out, at),
     }
 }
 
@@ -231,14 +231,14 @@ pub fn show_factors(op: Op, f: Factorization, out: &mut [u8], at: usize) -> usiz
 {
     let o = f.outcome;
     match o {
-        Outcome::Done => {
+        Ok(()) => {
             let first = begin(op, 0, out, at);
             let behind = text::write_ratio(f.content, out, first);
             let pieces = f.pieces;
             let last = write_pieces(pieces, f.len, out, behind);
             end(op, 0, out, last)
         }
-        Outcome::Refused(why) => refuse(op, why, 0, out, at),
+        Err(why) => refuse(op, why, 0, out, at),
     }
 }
 
@@ -250,12 +250,12 @@ pub fn show_count(op: Op, c: Count, out: &mut [u8], at: usize) -> usize
 {
     let o = c.outcome;
     match o {
-        Outcome::Done => {
+        Ok(()) => {
             let first = begin(op, 0, out, at);
             let behind = text::write_decimal(c.count as u64, out, first);
             end(op, 0, out, behind)
         }
-        Outcome::Refused(why) => refuse(op, why, 0, out, at),
+        Err(why) => refuse(op, why, 0, out, at),
     }
 }
 
@@ -267,12 +267,12 @@ pub fn show_floats(op: Op, r: Isolation, out: &mut [u8], at: usize) -> usize
 {
     let o = r.outcome;
     match o {
-        Outcome::Done => {
+        Ok(()) => {
             let first = begin(op, 0, out, at);
             let roots = r.roots;
             let behind = text::write_floats(roots, r.len, out, first);
             end(op, 0, out, behind)
         }
-        Outcome::Refused(why) => refuse(op, why, 0, out, at),
+        Err(why) => refuse(op, why, 0, out, at),
     }
 }

@@ -1,11 +1,11 @@
 -- Jobs by example: document 01's own, a text of each kind that is bad and its place, and lists that are too long.
+use Rattle.std.specs.Prelude.{Ok, Err}
 use mathlib.Core.Path.{◌≡◌, refl}
 use Prim.Native.Nat.{ℕ}
 use Prim.Native.String.{String}
 use lib.Ieee.{le, neg, of_bits}
 use Rattle.ratio.specs.Gcd.{gcd_by, gcd_of}
-use Rattle.ratio.specs.declared.Outcome.{Outcome}
-use Rattle.ratio.specs.declared.Outcome.TheVariants.{Done, Refused}
+use Rattle.ratio.specs.Refusal.{Outcome, no_refusal}
 use Rattle.ratio.specs.declared.Reason.TheVariants.{Malformed, TooLong}
 use Rattle.text.specs.Ascii.{bytes}
 use Rattle.ops.specs.Op.{name_of}
@@ -22,14 +22,14 @@ abbrev told : String → Outcome
 told t = (request_of (bytes t)).outcome
 
 abbrev bad : ℕ → Outcome
-bad at = Refused (Malformed at)
+bad at = Err (Malformed at)
 
 -- read
-jobs : (told "op=gcd\na=-1 0 1\nb=2 -3 1\n" ≡ Done)
-    × (told "op=eval\na=1/2 0 -3/4\nx=-5/7\n" ≡ Done)
-    × (told "op=neg\na=0\n" ≡ Done)
-    × (told "op=factor\na=1 1\nbudget=65536\n" ≡ Done)
-    × (told "op=isolate\na=-1 0 1\nlo=c000000000000000\nhi=4000000000000000\ntol=3eb0c6f7a0b5ed8d\n" ≡ Done)
+jobs : (told "op=gcd\na=-1 0 1\nb=2 -3 1\n" ≡ no_refusal)
+    × (told "op=eval\na=1/2 0 -3/4\nx=-5/7\n" ≡ no_refusal)
+    × (told "op=neg\na=0\n" ≡ no_refusal)
+    × (told "op=factor\na=1 1\nbudget=65536\n" ≡ no_refusal)
+    × (told "op=isolate\na=-1 0 1\nlo=c000000000000000\nhi=4000000000000000\ntol=3eb0c6f7a0b5ed8d\n" ≡ no_refusal)
 unfolding request_of made_of tol_of hi_of lo_of budget_of x_of b_of a_of op_line_of poly_line_of ratio_line_of budget_line_of float_line_of begins op_of op_of_one op_with_numbers name_of read_poly coeffs_from ratio_from numerator_of float_from budget_from natural_of bits_of number_of digit_of parts_of length_to gcd_of gcd_by le neg of_bits
 jobs = (refl, refl, refl, refl, refl)
 
@@ -73,7 +73,7 @@ unfolding request_of made_of tol_of hi_of lo_of budget_of x_of b_of a_of op_line
 lists = (refl, refl, refl, refl, refl, refl, refl, refl, refl, refl, refl, refl, refl, refl, refl, refl, refl, refl, refl, refl)
 
 -- 5 before 4
-longs : (told "op=add\na=1 1 1 1 1 1 1 1 1 1 1 1 1 1 1 1 1 1 1 1 1 1 1 1 1 1 1 1 1 1 1 1 1\nb=2\n" ≡ Refused TooLong)
+longs : (told "op=add\na=1 1 1 1 1 1 1 1 1 1 1 1 1 1 1 1 1 1 1 1 1 1 1 1 1 1 1 1 1 1 1 1 1\nb=2\n" ≡ Err TooLong)
     × (told "op=add\na=1 1 1 1 1 1 1 1 1 1 1 1 1 1 1 1 1 1 1 1 1 1 1 1 1 1 1 1 1 1 1 1 1\nb=2/4\n" ≡ bad 77)
 unfolding request_of made_of tol_of hi_of lo_of budget_of x_of b_of a_of op_line_of poly_line_of ratio_line_of budget_line_of float_line_of begins op_of op_of_one op_with_numbers name_of read_poly coeffs_from ratio_from numerator_of float_from budget_from natural_of bits_of number_of digit_of parts_of length_to gcd_of gcd_by le neg of_bits
 longs = (refl, refl)

@@ -1,4 +1,7 @@
 -- What each line holds lies within its limits.
+use Rattle.ratio.specs.declared.Reason.{Reason}
+use Rattle.ratio.specs.declared.Ratio.{Ratio}
+use Rattle.std.specs.Prelude.{Result, Ok, Err}
 use mathlib.Core.Path.{◌≡◌, refl, ap₂}
 use mathlib.Core.Bool.{Bool, true, false, cond}
 use mathlib.Core.List.{List}
@@ -9,10 +12,7 @@ use lib.Dec.{ltb, eqb}
 use lib.Ieee.{Float, binary64, of_bits, le, neg}
 use lib.ListN.{drop}
 use Rattle.ratio.specs.Promise.{Lowest}
-use Rattle.ratio.specs.declared.Outcome.{Outcome}
-use Rattle.ratio.specs.declared.Outcome.TheVariants as O
-use Rattle.ratio.specs.declared.Step.{Step}
-use Rattle.ratio.specs.declared.Step.TheVariants as S
+use Rattle.ratio.specs.Refusal.{Outcome}
 use Rattle.ratio.proofs.Steps.{zero-lowest}
 use Rattle.terms.specs.declared.Answer.{Answer}
 use Rattle.terms.specs.Answer.{done_with}
@@ -39,10 +39,10 @@ use Rattle.request.proofs.Within.{chosen}
 -- ---- coefficients
 
 poly-by : (s : List ℕ) (v : Cursor) (t : List ℕ) (o : Outcome) → (read_poly t).outcome ≡ o → CanonicalPoly (poly_by s v o (read_poly t).poly).poly
-poly-by s v t O.Done e =
+poly-by s v t (Ok _) e =
     let q : read_poly t ≡ done_with (read_poly t).poly 0 = ap₂ {C = Answer} (λ (o : Outcome) (n : ℕ). record { outcome = o; poly = (read_poly t).poly; steps = n }) e (poly-steps t) in
     (poly-both t {r = read_poly t} refl).1.canonical (read_poly t).poly q
-poly-by s v t (O.Refused why) e = zero-canonical
+poly-by s v t (Err why) e = zero-canonical
 
 pub poly-held : (s : List ℕ) (c : Cursor) (key : List ℕ) (wanted : Bool) → CanonicalPoly (poly_line_of s c key wanted).poly
 unfolding poly_line_of
@@ -52,9 +52,9 @@ poly-held s c key wanted =
 
 -- ---- a fraction
 
-ratio-by : (s : List ℕ) (v : Cursor) (t : List ℕ) (r : Step) → ratio_from t ≡ r → Lowest (ratio_by s v r).ratio
-ratio-by s v t (S.Done x) e = (ratio-both t {s = ratio_from t} refl).1.lowest x e
-ratio-by s v t (S.Refused why) e = zero-lowest
+ratio-by : (s : List ℕ) (v : Cursor) (t : List ℕ) (r : Result Ratio Reason) → ratio_from t ≡ r → Lowest (ratio_by s v r).ratio
+ratio-by s v t (Ok x) e = (ratio-both t {s = ratio_from t} refl).1.lowest x e
+ratio-by s v t (Err why) e = zero-lowest
 
 pub ratio-held : (s : List ℕ) (c : Cursor) (key : List ℕ) (wanted : Bool) → Lowest (ratio_line_of s c key wanted).ratio
 unfolding ratio_line_of

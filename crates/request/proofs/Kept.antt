@@ -1,4 +1,5 @@
 -- What a job that is read holds, and with what a text is refused.
+use Rattle.std.specs.Prelude.{Ok, Err}
 use mathlib.Core.Path.{◌≡◌, refl, sym, ap, subst}
 use mathlib.Core.Bool.{Bool, true, false, cond}
 use mathlib.Core.List.{List}
@@ -6,9 +7,7 @@ use Prim.Native.Nat.{ℕ}
 use native.Mathlib.Omega.{arith}
 use lib.Dec.{ltb}
 use lib.ListN.{length, drop}
-use Rattle.ratio.specs.Refusal.{number_of}
-use Rattle.ratio.specs.declared.Outcome.{Outcome}
-use Rattle.ratio.specs.declared.Outcome.TheVariants as O
+use Rattle.ratio.specs.Refusal.{number_of, Outcome, no_refusal}
 use Rattle.ratio.specs.declared.Reason.{Reason}
 use Rattle.ratio.specs.declared.Reason.TheVariants as R
 use Rattle.ratio.proofs.Steps.{zero-lowest}
@@ -77,11 +76,11 @@ unknown-last s h =
 
 -- ---- the end
 
-finished-chosen : (at : ℕ) (b t l : Bool) → cond b (O.Refused (R.Malformed at)) (cond t (O.Refused (R.Malformed at)) (cond l (O.Refused R.TooLong) O.Done)) ≡ O.Done → b ≡ false
+finished-chosen : (at : ℕ) (b t l : Bool) → cond b (Err (R.Malformed at)) (cond t (Err (R.Malformed at)) (cond l (Err R.TooLong) no_refusal)) ≡ no_refusal → b ≡ false
 finished-chosen at true t l h = let z : ◌≡◌ {A = ℕ} 0 1 = cc in absurd (omega arith)
 finished-chosen at false t l h = refl
 
-refused-chosen : (at : ℕ) (b t l : Bool) (why : Reason) → cond b (O.Refused (R.Malformed at)) (cond t (O.Refused (R.Malformed at)) (cond l (O.Refused R.TooLong) O.Done)) ≡ O.Refused why → (number_of why ≡ 5 → ⊥) → number_of why ≡ 4
+refused-chosen : (at : ℕ) (b t l : Bool) (why : Reason) → cond b (Err (R.Malformed at)) (cond t (Err (R.Malformed at)) (cond l (Err R.TooLong) no_refusal)) ≡ Err why → (number_of why ≡ 5 → ⊥) → number_of why ≡ 4
 refused-chosen at true t l why h f = let z : R.Malformed at ≡ why = cc in absurd (f (sym (ap number_of z)))
 refused-chosen at false true l why h f = let z : R.Malformed at ≡ why = cc in absurd (f (sym (ap number_of z)))
 refused-chosen at false false true why h f = let z : R.TooLong ≡ why = cc in sym (ap number_of z)
@@ -105,10 +104,10 @@ refused-holds op why f g = record {
   refused = λ z h. f h;
 }
 
-not_done : (s : List ℕ) (c : Cursor) (why : Reason) → finished_at s c ≡ O.Refused why → number_of why ≡ 0 → ⊥
+not_done : (s : List ℕ) (c : Cursor) (why : Reason) → finished_at s c ≡ Err why → number_of why ≡ 0 → ⊥
 not_done s c why e z = not_chosen c.at c.bad (ltb c.at (length s)) c.long why e z
   where
-    not_chosen : (at : ℕ) (b t l : Bool) (why : Reason) → cond b (O.Refused (R.Malformed at)) (cond t (O.Refused (R.Malformed at)) (cond l (O.Refused R.TooLong) O.Done)) ≡ O.Refused why → number_of why ≡ 0 → ⊥
+    not_chosen : (at : ℕ) (b t l : Bool) (why : Reason) → cond b (Err (R.Malformed at)) (cond t (Err (R.Malformed at)) (cond l (Err R.TooLong) no_refusal)) ≡ Err why → number_of why ≡ 0 → ⊥
     not_chosen at true t l why h z = let y : R.Malformed at ≡ why = cc in omega (arith, ap number_of y)
     not_chosen at false true l why h z = let y : R.Malformed at ≡ why = cc in omega (arith, ap number_of y)
     not_chosen at false false true why h z = let y : R.TooLong ≡ why = cc in omega (arith, ap number_of y)
@@ -116,7 +115,7 @@ not_done s c why e z = not_chosen c.at c.bad (ltb c.at (length s)) c.long why e 
 
 made_holds : (s : List ℕ) (o : Outcome) → finished_at s (tol_of s).cursor ≡ o → Job (made_by s o)
 unfolding a_of b_of x_of budget_of lo_of hi_of tol_of
-made_holds s O.Done e =
+made_holds s (Ok _) e =
     let c = (tol_of s).cursor in
     let b : c.bad ≡ false = finished-chosen c.at c.bad (ltb c.at (length s)) c.long e in
     record {
@@ -131,7 +130,7 @@ made_holds s O.Done e =
       tol-limited = λ z q. tol-held s (hi_of s).cursor (bytes "tol=") (keys_of s).tol (ap (λ o. (wants_of o).tol) q) b;
       refused = λ z. absurd (z refl);
     }
-made_holds s (O.Refused why) e =
+made_holds s (Err why) e =
     let c = (tol_of s).cursor in
     refused-holds (op_line_of s).op why (refused-chosen c.at c.bad (ltb c.at (length s)) c.long why e) (not_done s c why e)
 

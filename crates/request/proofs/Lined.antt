@@ -1,4 +1,6 @@
 -- Each kind of line, by the cases that the code tells apart.
+use Rattle.ratio.specs.Refusal.{no_refusal}
+use Rattle.std.specs.Prelude.{Ok, Err}
 use mathlib.Core.Path.{◌≡◌, refl, sym, ap, ◌∙◌}
 use mathlib.Core.Bool.{Bool, true, false, cond}
 use mathlib.Core.List.{List, [], ◌∷◌}
@@ -6,11 +8,9 @@ use Prim.Native.Nat.{ℕ, ◌+◌, ◌-◌}
 use denote.Enum.Declared.{tag_of}
 use types.Run.{OneOf, miss}
 use lib.ListN.{length, take, drop}
-use Rattle.ratio.specs.declared.Outcome.TheVariants as O
 use Rattle.ratio.specs.declared.Ratio.{Ratio}
 use Rattle.ratio.specs.declared.Reason.{Reason}
 use Rattle.ratio.specs.declared.Reason.TheVariants as R
-use Rattle.ratio.specs.declared.Step.TheVariants as S
 use Rattle.ratio.specs.contracts.Reason as Reasons
 use Rattle.terms.specs.declared.Answer.{Answer}
 use Rattle.tokens.specs.declared.Number.TheVariants as N
@@ -120,23 +120,23 @@ module _ (s : List ℕ) (v : Cursor) (b : v.bad ≡ false) (end : ℕ) (e : end 
     sealed : poly_by s v r.outcome r.poly ≡ poly_in s v
     sealed = ap (λ (x : Answer). poly_by s v x.outcome x.poly) (h ∙ ap read_poly here) ∙ pick-false b _ _
 
-    pub poly-done : r.outcome ≡ O.Done → ◌≡◌ {A = PolyLine} (record { cursor = closed_at s end v.long; poly = r.poly }) (poly_in s v)
+    pub poly-done : r.outcome ≡ no_refusal → ◌≡◌ {A = PolyLine} (record { cursor = closed_at s end v.long; poly = r.poly }) (poly_in s v)
     poly-done o = ap {B = PolyLine} (λ n. record { cursor = closed_at s n v.long; poly = r.poly }) e ∙ sym (ap (λ x. poly_by s v x r.poly) o) ∙ sealed
 
-    pub poly-malformed : {why : Reason} → r.outcome ≡ O.Refused why → (k : ℕ) → why ≡ R.Malformed k → no_poly (stopped_at (v.at + k)) ≡ poly_in s v
-    poly-malformed o k m = sym (ap (λ x. poly_by s v x r.poly) (o ∙ ap O.Refused m)) ∙ sealed
+    pub poly-malformed : {why : Reason} → r.outcome ≡ Err why → (k : ℕ) → why ≡ R.Malformed k → no_poly (stopped_at (v.at + k)) ≡ poly_in s v
+    poly-malformed o k m = sym (ap (λ x. poly_by s v x r.poly) (o ∙ ap Err m)) ∙ sealed
 
-    pub poly-long : (why : Reason) → r.outcome ≡ O.Refused why → Others why → no_poly (closed_at s end true) ≡ poly_in s v
+    pub poly-long : (why : Reason) → r.outcome ≡ Err why → Others why → no_poly (closed_at s end true) ≡ poly_in s v
     poly-long why o m = ap (λ n. no_poly (closed_at s n true)) e ∙ ap no_poly (others s v why m) ∙ sym (ap (λ x. poly_by s v x r.poly) o) ∙ sealed
 
   module _ (w : List ℕ) (i : w ≡ take (end - v.at) (drop v.at s)) where
     at_value : w ≡ value_at s v.at
     at_value = i ∙ here
 
-    pub ratio-done : (x : Ratio) → ratio_from w ≡ S.Done x → ◌≡◌ {A = RatioLine} (record { cursor = closed_at s end v.long; ratio = x }) (ratio_in_line s v)
+    pub ratio-done : (x : Ratio) → ratio_from w ≡ Ok x → ◌≡◌ {A = RatioLine} (record { cursor = closed_at s end v.long; ratio = x }) (ratio_in_line s v)
     ratio-done x o = ap {B = RatioLine} (λ n. record { cursor = closed_at s n v.long; ratio = x }) e ∙ ap (ratio_by s v) (sym o ∙ ap ratio_from at_value) ∙ pick-false b _ _
 
-    pub ratio-refused : {why : Reason} → ratio_from w ≡ S.Refused why → no_ratio (stopped_at v.at) ≡ ratio_in_line s v
+    pub ratio-refused : {why : Reason} → ratio_from w ≡ Err why → no_ratio (stopped_at v.at) ≡ ratio_in_line s v
     ratio-refused o = ap (ratio_by s v) (sym o ∙ ap ratio_from at_value) ∙ pick-false b _ _
 
     pub budget-done : (n : ℕ) → budget_from w ≡ N.Is n → ◌≡◌ {A = BudgetLine} (record { cursor = closed_at s end v.long; budget = n }) (budget_in s v)

@@ -1,11 +1,12 @@
 -- The first line, and a job made of its lines.
+use Rattle.ratio.specs.Refusal.{no_refusal}
+use Rattle.std.specs.Prelude.{Ok, Err}
 use mathlib.Core.Path.{◌≡◌, sym, ap, ◌∙◌}
 use mathlib.Core.Bool.{true, false}
 use mathlib.Core.List.{List}
 use Prim.Native.Nat.{ℕ, ◌-◌, ◌≤◌, ◌<◌}
 use borrow.Author.Tests.{lt-ltb, le-ltb}
 use lib.ListN.{length, take, drop}
-use Rattle.ratio.specs.declared.Outcome.TheVariants as O
 use Rattle.ratio.specs.declared.Reason.{Reason}
 use Rattle.ratio.specs.declared.Reason.TheVariants as R
 use Rattle.text.specs.Ascii.{bytes}
@@ -49,12 +50,12 @@ interval-is s lo hi tol a b c = rw (a, b, c)
 
 -- the rest
 module _ (s : List ℕ) (op : Op) (p : op ≡ (op_line_of s).op) (i : Interval) (t : i ≡ interval_of s) where
-  pub made-refused : {why : Reason} → finished_at s i.cursor ≡ O.Refused why → refused_for op why ≡ made_of s
+  pub made-refused : {why : Reason} → finished_at s i.cursor ≡ Err why → refused_for op why ≡ made_of s
   unfolding made_of
   made-refused {why} f = ap (λ o. refused_for o why) p ∙ ap (made_by s) (sym f ∙ ap (λ (l : Interval). finished_at s l.cursor) t)
 
-  pub made-done : (a b : PolyLine) (x : RatioLine) (n : BudgetLine) → a ≡ a_of s → b ≡ b_of s → x ≡ x_of s → n ≡ budget_of s → finished_at s i.cursor ≡ O.Done
-      → ◌≡◌ {A = Request} (record { op = op; outcome = O.Done; a = a.poly; b = b.poly; x = x.ratio; budget = n.budget; lo = i.lo; hi = i.hi; tol = i.tol }) (made_of s)
+  pub made-done : (a b : PolyLine) (x : RatioLine) (n : BudgetLine) → a ≡ a_of s → b ≡ b_of s → x ≡ x_of s → n ≡ budget_of s → finished_at s i.cursor ≡ no_refusal
+      → ◌≡◌ {A = Request} (record { op = op; outcome = no_refusal; a = a.poly; b = b.poly; x = x.ratio; budget = n.budget; lo = i.lo; hi = i.hi; tol = i.tol }) (made_of s)
   unfolding made_of
   made-done a b x n ea eb ex en f = rw (ea, eb, ex, en, p, t) (ap (made_by s) (sym f ∙ ap (λ (l : Interval). finished_at s l.cursor) t))
 

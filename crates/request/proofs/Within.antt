@@ -1,4 +1,6 @@
 -- Reading stays within the text.
+use Rattle.ratio.specs.declared.Ratio.{Ratio}
+use Rattle.std.specs.Prelude.{Result, Ok, Err}
 use mathlib.Core.Path.{◌≡◌, refl, sym, ap, ◌∙◌}
 use mathlib.Core.Bool.{Bool, true, false, cond}
 use mathlib.Core.List.{List, [], ◌∷◌}
@@ -8,12 +10,9 @@ use borrow.Author.Tests.{ltb-true}
 use lib.Dec.{ltb, eqb}
 use lib.ListN.{length, take, drop, length-drop}
 use lib.Seq.{length-take-le}
-use Rattle.ratio.specs.declared.Outcome.{Outcome}
-use Rattle.ratio.specs.declared.Outcome.TheVariants as O
+use Rattle.ratio.specs.Refusal.{Outcome}
 use Rattle.ratio.specs.declared.Reason.{Reason}
 use Rattle.ratio.specs.declared.Reason.TheVariants as R
-use Rattle.ratio.specs.declared.Step.{Step}
-use Rattle.ratio.specs.declared.Step.TheVariants as S
 use Rattle.terms.specs.declared.Answer.{Answer}
 use Rattle.terms.specs.declared.Poly.{Poly}
 use Rattle.text.specs.Ascii.{bytes}
@@ -93,20 +92,20 @@ module _ (s : List ℕ) (v : Cursor) (h : v.at ≤ length s) where
   reason-within R.TooDeep g = closed-within s v.at true h
   reason-within R.NoRoom g = closed-within s v.at true h
 
-  outcome-within : (o : Outcome) (p : Poly) → ((k : ℕ) → o ≡ O.Refused (R.Malformed k) → v.at + k ≤ length s) → (poly_by s v o p).cursor.at ≤ length s
-  outcome-within O.Done p g = closed-within s v.at v.long h
-  outcome-within (O.Refused why) p g = reason-within why (λ k e. g k (ap O.Refused e))
+  outcome-within : (o : Outcome) (p : Poly) → ((k : ℕ) → o ≡ Err (R.Malformed k) → v.at + k ≤ length s) → (poly_by s v o p).cursor.at ≤ length s
+  outcome-within (Ok _) p g = closed-within s v.at v.long h
+  outcome-within (Err why) p g = reason-within why (λ k e. g k (ap Err e))
 
   -- a bad word's place
-  pub bad-within : (k : ℕ) → (read_poly (value_at s v.at)).outcome ≡ O.Refused (R.Malformed k) → v.at + k ≤ length s
+  pub bad-within : (k : ℕ) → (read_poly (value_at s v.at)).outcome ≡ Err (R.Malformed k) → v.at + k ≤ length s
   bad-within k e = omega (arith, poly-placed (value_at s v.at) k e, value-length s v.at, part-within s v.at h)
 
   poly-in : (poly_in s v).cursor.at ≤ length s
   poly-in = chosen (λ (d : PolyLine). d.cursor.at ≤ length s) v.bad _ _ h (outcome-within (read_poly (value_at s v.at)).outcome (read_poly (value_at s v.at)).poly bad-within)
 
-  step-within : (r : Step) → (ratio_by s v r).cursor.at ≤ length s
-  step-within (S.Done x) = closed-within s v.at v.long h
-  step-within (S.Refused why) = h
+  step-within : (r : Result Ratio Reason) → (ratio_by s v r).cursor.at ≤ length s
+  step-within (Ok x) = closed-within s v.at v.long h
+  step-within (Err why) = h
 
   number-within : (n : Number) → (budget_by s v n).cursor.at ≤ length s
   number-within (N.Is n) = closed-within s v.at v.long h
@@ -120,8 +119,8 @@ module _ (s : List ℕ) (v : Cursor) (h : v.at ≤ length s) where
   name-within op = chosen (λ (d : OpLine). d.cursor.at ≤ length s) (is_known op) _ _ (closed-within s v.at false h) h
 
 -- the place of a bad word, as the code finds it
-pub placed : (s : List ℕ) (v : Cursor) → v.at ≤ length s → (end : ℕ) → end ≡ end_of s v.at → (r : Answer) → r ≡ read_poly (take (end - v.at) (drop v.at s)) → {why : Reason} → r.outcome ≡ O.Refused why → (k : ℕ) → why ≡ R.Malformed k → v.at + k ≤ length s
-placed s v h end e r q o k m = bad-within s v h k (ap (λ (x : Answer). x.outcome) (sym (q ∙ ap read_poly (value-is s v.at end e))) ∙ o ∙ ap O.Refused m)
+pub placed : (s : List ℕ) (v : Cursor) → v.at ≤ length s → (end : ℕ) → end ≡ end_of s v.at → (r : Answer) → r ≡ read_poly (take (end - v.at) (drop v.at s)) → {why : Reason} → r.outcome ≡ Err why → (k : ℕ) → why ≡ R.Malformed k → v.at + k ≤ length s
+placed s v h end e r q o k m = bad-within s v h k (ap (λ (x : Answer). x.outcome) (sym (q ∙ ap read_poly (value-is s v.at end e))) ∙ o ∙ ap Err m)
 
 module _ (s : List ℕ) (c : Cursor) (key : List ℕ) (wanted : Bool) (h : c.at ≤ length s) where
   pub poly-within : (poly_line_of s c key wanted).cursor.at ≤ length s

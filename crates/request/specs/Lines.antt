@@ -1,15 +1,12 @@
 -- Document 01, "the job program": a line is a key, `=`, a value and a newline. Read from left to right; the first thing that is bad stops it, with its place.
-use Rattle.std.specs.Prelude.{Bool, true, false, ◌&&◌, cond, List, [], ℕ, ◌+◌, ltb, Float, length, take, drop}
+use Rattle.ratio.specs.declared.Ratio.{Ratio}
+use Rattle.std.specs.Prelude.{Bool, true, false, ◌&&◌, cond, List, [], ℕ, ◌+◌, ltb, Float, length, take, drop, Result, Ok, Err}
 use Rattle.std.specs.Float.{binary64}
 use Rattle.std.specs.Float.Ieee.{of_bits, lt}
 use Rattle.std.specs.Float.Ieee.Scale.{finite}
-use Rattle.ratio.specs.Refusal.{zero_r}
-use Rattle.ratio.specs.declared.Outcome.{Outcome}
-use Rattle.ratio.specs.declared.Outcome.TheVariants as O
+use Rattle.ratio.specs.Refusal.{zero_r, Outcome}
 use Rattle.ratio.specs.declared.Reason.{Reason}
 use Rattle.ratio.specs.declared.Reason.TheVariants as R
-use Rattle.ratio.specs.declared.Step.{Step}
-use Rattle.ratio.specs.declared.Step.TheVariants as S
 use Rattle.terms.specs.declared.Poly.{Poly}
 use Rattle.terms.specs.Poly.{poly_of}
 use Rattle.sturm.specs.Count.{inside}
@@ -74,8 +71,8 @@ cursor_for s v R.TooDeep = too_long s v
 cursor_for s v R.NoRoom = too_long s v
 
 abbrev pub poly_by : List ℕ → Cursor → Outcome → Poly → PolyLine
-poly_by s v O.Done p = record { cursor = closed_at s (end_of s v.at) v.long; poly = p }
-poly_by s v (O.Refused why) p = no_poly (cursor_for s v why)
+poly_by s v (Ok _) p = record { cursor = closed_at s (end_of s v.at) v.long; poly = p }
+poly_by s v (Err why) p = no_poly (cursor_for s v why)
 
 abbrev pub poly_in : List ℕ → Cursor → PolyLine
 poly_in s v = cond v.bad (no_poly v) (let r = read_poly (value_at s v.at) in poly_by s v r.outcome r.poly)
@@ -89,9 +86,9 @@ poly_line_of s c key wanted = cond wanted (poly_in s (opened_at s key c)) (no_po
 abbrev pub no_ratio : Cursor → RatioLine
 no_ratio c = record { cursor = c; ratio = zero_r }
 
-abbrev pub ratio_by : List ℕ → Cursor → Step → RatioLine
-ratio_by s v (S.Done r) = record { cursor = closed_at s (end_of s v.at) v.long; ratio = r }
-ratio_by s v (S.Refused why) = no_ratio (stopped_at v.at)
+abbrev pub ratio_by : List ℕ → Cursor → Result Ratio Reason → RatioLine
+ratio_by s v (Ok r) = record { cursor = closed_at s (end_of s v.at) v.long; ratio = r }
+ratio_by s v (Err why) = no_ratio (stopped_at v.at)
 
 abbrev pub ratio_in_line : List ℕ → Cursor → RatioLine
 ratio_in_line s v = cond v.bad (no_ratio v) (ratio_by s v (ratio_from (value_at s v.at)))

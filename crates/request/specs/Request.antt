@@ -1,10 +1,8 @@
 -- Document 01, "the job program": a job is its lines in the order op, a, b, x, budget, lo, hi, tol, unused keys absent, and nothing behind them; at most 4,096 bytes. 5 anywhere comes before 4.
-use Rattle.std.specs.Prelude.{true, false, cond, List, [], ℕ, ltb, length}
+use Rattle.std.specs.Prelude.{true, false, cond, List, [], ℕ, ltb, length, Ok, Err}
 use Rattle.std.specs.Float.{binary64}
 use Rattle.std.specs.Float.Ieee.{of_bits}
-use Rattle.ratio.specs.Refusal.{zero_r}
-use Rattle.ratio.specs.declared.Outcome.{Outcome}
-use Rattle.ratio.specs.declared.Outcome.TheVariants as O
+use Rattle.ratio.specs.Refusal.{zero_r, Outcome, no_refusal}
 use Rattle.ratio.specs.declared.Reason.{Reason}
 use Rattle.ratio.specs.declared.Reason.TheVariants as R
 use Rattle.terms.specs.Poly.{poly_of}
@@ -67,14 +65,14 @@ interval_of s = record { cursor = (tol_of s).cursor; lo = (lo_of s).float; hi = 
 -- what is bad, or a line too many; then a list that is too long
 abbrev pub finished_at : List ℕ → Cursor → Outcome
 finished_at s c =
-    cond c.bad (O.Refused (R.Malformed c.at))
-    (cond (ltb c.at (length s)) (O.Refused (R.Malformed c.at))
-    (cond c.long (O.Refused R.TooLong) O.Done))
+    cond c.bad (Err (R.Malformed c.at))
+    (cond (ltb c.at (length s)) (Err (R.Malformed c.at))
+    (cond c.long (Err R.TooLong) no_refusal))
 
 abbrev pub refused_for : Op → Reason → Request
 refused_for op why = record {
   op = op;
-  outcome = O.Refused why;
+  outcome = Err why;
   a = poly_of [];
   b = poly_of [];
   x = zero_r;
@@ -87,7 +85,7 @@ refused_for op why = record {
 abbrev pub read_for : List ℕ → Request
 read_for s = record {
   op = (op_line_of s).op;
-  outcome = O.Done;
+  outcome = no_refusal;
   a = (a_of s).poly;
   b = (b_of s).poly;
   x = (x_of s).ratio;
@@ -98,8 +96,8 @@ read_for s = record {
 }
 
 abbrev pub made_by : List ℕ → Outcome → Request
-made_by s O.Done = read_for s
-made_by s (O.Refused why) = refused_for (op_line_of s).op why
+made_by s (Ok _) = read_for s
+made_by s (Err why) = refused_for (op_line_of s).op why
 
 unfoldable pub made_of : List ℕ → Request
 made_of s = made_by s (finished_at s (tol_of s).cursor)

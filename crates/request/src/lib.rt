@@ -9,7 +9,7 @@ ghost use Rattle.request.specs.Promise.{Job};
 
 use ops::Op;
 use poly::Gate;
-use ratio::{Outcome, Ratio, Reason, Step};
+use ratio::{Ratio, Reason};
 use reading::Real;
 use terms::Poly;
 use tokens::Number;
@@ -24,7 +24,7 @@ const LONGEST: usize = 4096;
 #[derive(Clone, Copy)]
 pub struct Request {
     pub op: Op,
-    pub outcome: Outcome,
+    pub outcome: Result<(), Reason>,
     pub a: Poly,
     pub b: Poly,
     pub x: Ratio,
@@ -338,7 +338,7 @@ fn poly_line(text: &[u8], c: Cursor, key: &[u8], wanted: bool) -> PolyLine
     let end = tokens::part_end(text, at, 10);
     let r = reading::read_poly(&text[at..end]);
     let o = r.outcome;
-    let Outcome::Refused(why) = o else {
+    let Err(why) = o else {
         let poly = r.poly;
         return PolyLine {
             cursor: close(text, end, v.long),
@@ -375,11 +375,11 @@ fn ratio_line(text: &[u8], c: Cursor, key: &[u8], wanted: bool) -> RatioLine
     let at = v.at;
     let end = tokens::part_end(text, at, 10);
     match reading::read_ratio(&text[at..end]) {
-        Step::Done(ratio) => RatioLine {
+        Ok(ratio) => RatioLine {
             cursor: close(text, end, v.long),
             ratio,
         },
-        Step::Refused(_) => no_ratio(stopped(at)),
+        Err(_) => no_ratio(stopped(at)),
     }
 }
 
@@ -478,18 +478,18 @@ fn float_line(text: &[u8], c: Cursor, key: &[u8], wanted: bool, tolerance: bool)
 // ---- the job
 
 // What is bad, or a line too many; then a list that is too long.
-fn finish(text: &[u8], c: Cursor) -> Outcome
+fn finish(text: &[u8], c: Cursor) -> Result<(), Reason>
     ensures { result ≡ finished_at text.now c }
 {
     let at = c.at;
     if c.bad {
-        Outcome::Refused(Reason::Malformed { at })
+        Err(Reason::Malformed { at })
     } else if at < text.len() {
-        Outcome::Refused(Reason::Malformed { at })
+        Err(Reason::Malformed { at })
     } else if c.long {
-        Outcome::Refused(Reason::TooLong)
+        Err(Reason::TooLong)
     } else {
-        Outcome::Done
+        Ok(())
     }
 }
 
@@ -498,7 +498,7 @@ fn refused(op: Op, why: Reason) -> Request
 {
     Request {
         op,
-        outcome: Outcome::Refused(why),
+        outcome: Err(why),
         a: Poly::zero(),
         b: Poly::zero(),
         x: Ratio { num: 0, den: 1 },
@@ -545,7 +545,7 @@ fn rest(text: &[u8], op: Op, start: Cursor) -> Request
     let i = interval_lines(text, behind_n, wants.ends, wants.tol);
     let last = i.cursor;
     let o = finish(text, last);
-    if let Outcome::Refused(why) = o {
+    if let Err(why) = o {
         return refused(op, why);
     }
     let pa = a.poly;
@@ -553,7 +553,7 @@ fn rest(text: &[u8], op: Op, start: Cursor) -> Request
     let rx = x.ratio;
     Request {
         op,
-        outcome: Outcome::Done,
+        outcome: Ok(()),
         a: pa,
         b: pb,
         x: rx,

@@ -1,4 +1,6 @@
 -- Where the denominators have a common multiple within the range, each coefficient is a whole number of times the content.
+use Rattle.ratio.specs.declared.Reason.{Reason}
+use Rattle.std.specs.Prelude.{Result, Ok, Err}
 use mathlib.Core.Path.{◌≡◌, refl, sym, ap, ap₂, subst, ◌∙◌}
 use mathlib.Core.Logic.{◌⊎◌, inl, inr}
 use mathlib.Core.List.{List, [], ◌∷◌}
@@ -21,8 +23,6 @@ use Rattle.ratio.specs.Refusal.{zero_r, status_of, ratio_of}
 use Rattle.ratio.specs.Step.{mul_of, new_of}
 use Rattle.ratio.specs.declared.Ratio.{Ratio}
 use Rattle.ratio.specs.declared.Reason.TheVariants.{CoeffOverflow}
-use Rattle.ratio.specs.declared.Step.{Step}
-use Rattle.ratio.specs.declared.Step.TheVariants.{Done, Refused}
 use Rattle.ratio.proofs.Answers.{mul-answers}
 use Rattle.ratio.proofs.Euclid.{is-gcd, gcd-above}
 use Rattle.ratio.proofs.Steps.{mul-either}
@@ -64,16 +64,16 @@ lcm-divides k e m p q h j =
 
 -- ---- a common multiple within the range is made
 
-pub widened-done : (k e : ℕ) → 0 < e → k ≤ limit → e ≤ limit → k * (e / gcd_of k e) ≤ limit → widened (whole_r (pos k)) (pos e) ≡ Done (whole_r (pos (k * (e / gcd_of k e))))
+pub widened-done : (k e : ℕ) → 0 < e → k ≤ limit → e ≤ limit → k * (e / gcd_of k e) ≤ limit → widened (whole_r (pos k)) (pos e) ≡ Ok (whole_r (pos (k * (e / gcd_of k e))))
 unfolding widened
 widened-done k e q h j w = rw (lt-ltb 0 e q) (go (mul-either (whole_r (pos k)) (whole_r (pos (e / gcd_of k e))) (whole-lowest (pos k) h).fraction (whole-lowest (pos (e / gcd_of k e)) s).fraction))
   where
     s : e / gcd_of k e ≤ limit
     s = le_trans (div-le_self e (gcd_of k e)) j
 
-    go : ((r : Ratio) × (mul_of (whole_r (pos k)) (whole_r (pos (e / gcd_of k e))) ≡ Done r)) ⊎ (mul_of (whole_r (pos k)) (whole_r (pos (e / gcd_of k e))) ≡ Refused CoeffOverflow)
-        → mul_of (whole_r (pos k)) (whole_r (pos (e / gcd_of k e))) ≡ Done (whole_r (pos (k * (e / gcd_of k e))))
-    go (inl (r, f)) = f ∙ ap Done (whole-product (pos k) (pos (e / gcd_of k e)) r f)
+    go : ((r : Ratio) × (mul_of (whole_r (pos k)) (whole_r (pos (e / gcd_of k e))) ≡ Ok r)) ⊎ (mul_of (whole_r (pos k)) (whole_r (pos (e / gcd_of k e))) ≡ Err CoeffOverflow)
+        → mul_of (whole_r (pos k)) (whole_r (pos (e / gcd_of k e))) ≡ Ok (whole_r (pos (k * (e / gcd_of k e))))
+    go (inl (r, f)) = f ∙ ap Ok (whole-product (pos k) (pos (e / gcd_of k e)) r f)
     go (inr f) =
         let a = (mul-answers (whole_r (pos k)) (whole_r (pos (e / gcd_of k e)))).answered
         (record { a-fraction = (whole-lowest (pos k) h).fraction; b-fraction = (whole-lowest (pos (e / gcd_of k e)) s).fraction; upper = w; lower = omega arith }) in
@@ -119,13 +119,13 @@ module _ (m : ℕ) (some : 0 < m) (h : m ≤ limit) where
       let t : ℕ = k * (e / gcd_of k e) in
       let td : t ∣ m = lcm-divides k e m p v.some d v.divides in
       let tp : 0 < t = pos_of_dvd_of_pos td some in
-      let f : widened (whole_r (pos k)) a.den ≡ Done (whole_r (pos t)) = ap (widened (whole_r (pos k))) v.is ∙ widened-done k e v.some (small k d) (small e v.divides) (small t td) in
+      let f : widened (whole_r (pos k)) a.den ≡ Ok (whole_r (pos t)) = ap (widened (whole_r (pos k))) v.is ∙ widened-done k e v.some (small k d) (small e v.divides) (small t td) in
       let c = covered l (gcd_of n (nat_abs a.num)) t (gcd-within n (nat_abs a.num) b (w 0 (omega arith))) tp td (λ i j. w (suc i) (omega arith)) (λ i j. u (suc i) (omega arith)) in
       let g = is-gcd n (nat_abs a.num) in
       record {
         num = c.num;
         den = c.den;
-        is = ap (λ (s : Step). content_from l (gcd_of n (nat_abs a.num)) (or_stay s (whole_r (pos k)))) f ∙ c.is;
+        is = ap (λ (s : Result Ratio Reason). content_from l (gcd_of n (nat_abs a.num)) (or_stay s (whole_r (pos k)))) f ∙ c.is;
         some = c.some;
         num-within = c.num-within;
         den-within = c.den-within;

@@ -1,4 +1,5 @@
 -- What the content is: a fraction in lowest terms, not below zero, zero exactly for the zero polynomial.
+use Rattle.std.specs.Prelude.{Result, Ok, Err}
 use mathlib.Core.Path.{◌≡◌, refl, sym, ap, subst, ◌∙◌}
 use mathlib.Core.List.{List, [], ◌∷◌}
 use Prim.Native.Nat.{ℕ, zero, suc, ◌*◌, ◌<◌, ◌≤◌, ◌∣◌}
@@ -21,8 +22,6 @@ use Rattle.ratio.specs.Refusal.{zero_r, ratio_of}
 use Rattle.ratio.specs.Step.{new_of}
 use Rattle.ratio.specs.declared.Ratio.{Ratio}
 use Rattle.ratio.specs.declared.Reason.{Reason}
-use Rattle.ratio.specs.declared.Step.{Step}
-use Rattle.ratio.specs.declared.Step.TheVariants.{Done, Refused}
 use Rattle.ratio.proofs.Euclid.{is-gcd}
 use Rattle.ratio.proofs.Steps.{new_is, new-done, zero-lowest}
 use Rattle.terms.specs.declared.Poly.{Poly}
@@ -62,20 +61,20 @@ den-one : Den (whole_r (pos 1))
 den-one = record { number = 1; is = refl; some = omega arith; within = omega arith }
 
 -- the next one is the multiple of one denominator more
-one-multiple : (d a m : Ratio) (D : Den d) → widened d a.den ≡ Done m → Multiple (a ∷ []) D.number m
+one-multiple : (d a m : Ratio) (D : Den d) → widened d a.den ≡ Ok m → Multiple (a ∷ []) D.number m
 unfolding multiple_from
 one-multiple d a m D e =
-    let f : widened (whole_r (pos D.number)) a.den ≡ Done m = ap (λ t. widened t a.den) (sym D.is) ∙ e in
+    let f : widened (whole_r (pos D.number)) a.den ≡ Ok m = ap (λ t. widened t a.den) (sym D.is) ∙ e in
     multiple-is (a ∷ []) D.number m D.some (rw f)
 
 den-next : (d a : Ratio) → Den d → Den (denominator_of d a.den)
 den-next d a D = go (widened d a.den) refl
   where
-    go : (s : Step) → widened d a.den ≡ s → Den (or_stay s d)
-    go (Done m) e =
+    go : (s : Result Ratio Reason) → widened d a.den ≡ s → Den (or_stay s d)
+    go (Ok m) e =
         let M = one-multiple d a m D e in
         record { number = M.number; is = M.is; some = M.some; within = subst (λ z. nat_abs z ≤ limit) (ap (λ (r : Ratio). r.num) M.is) (widened-within d a.den m e) }
-    go (Refused why) e = D
+    go (Err why) e = D
 
 -- the content of l is num / den; num divides n and each numerator
 record Gathered (l : List Ratio) (n : ℕ) (r : Ratio) : Type 0 where
@@ -123,8 +122,8 @@ module _ (l : List Ratio) (c : Canonical l) where
   whole : Gathered l 0 (content_of l)
   whole = gathered l 0 (whole_r (pos 1)) (omega arith) den-one (λ i k. (c.lowest i).fraction.num-within)
 
-  made : new_of (pos whole.num) (pos whole.den) ≡ Done (content_of l)
-  made = let e = new_is (pos whole.num) (pos whole.den) whole.fraction in e ∙ ap Done (sym (whole.is ∙ ap ratio_of e))
+  made : new_of (pos whole.num) (pos whole.den) ≡ Ok (content_of l)
+  made = let e = new_is (pos whole.num) (pos whole.den) whole.fraction in e ∙ ap Ok (sym (whole.is ∙ ap ratio_of e))
 
   pub content-lowest : Lowest (content_of l)
   content-lowest = (new-done (pos whole.num) (pos whole.den) (content_of l) made).1
@@ -152,7 +151,7 @@ module _ (l : List Ratio) (c : Canonical l) where
 -- the zero polynomial has content 0
 pub content-nil : Same (rat (content_of [])) zero_q
 unfolding content_from
-content-nil = (new-done (pos 0) (pos 1) (ratio_of (new_of (pos 0) (pos 1))) (let e = new_is (pos 0) (pos 1) zero-lowest.fraction in e ∙ ap (λ s. Done (ratio_of s)) (sym e))).0
+content-nil = (new-done (pos 0) (pos 1) (ratio_of (new_of (pos 0) (pos 1))) (let e = new_is (pos 0) (pos 1) zero-lowest.fraction in e ∙ ap (λ s. Ok (ratio_of s)) (sym e))).0
 
 -- ---- it divides the coefficients, where no common multiple left the range
 
@@ -178,7 +177,7 @@ module _ (l : List Ratio) (c : Canonical l) (m : ℕ) (some : 0 < m) (h : m ≤ 
   cover-same =
       let f : Fraction (record { num = pos cover.num; den = pos cover.den }) = record { num-within = cover.num-within; den-within = cover.den-within; den-some = λ e. let z : cover.den ≡ 0 = ap nat_abs e in absurd (omega (arith, cover.some)) } in
       let e = new_is (pos cover.num) (pos cover.den) f in
-      (new-done (pos cover.num) (pos cover.den) (content_of l) (e ∙ ap Done (sym (cover.is ∙ ap ratio_of e)))).0
+      (new-done (pos cover.num) (pos cover.den) (content_of l) (e ∙ ap Ok (sym (cover.is ∙ ap ratio_of e)))).0
 
   numerators : (i : ℕ) → cover.num ∣ nat_abs (get_or l i zero_r).num
   numerators i = go (dec_lt i (length l))
@@ -211,7 +210,7 @@ module _ (l : List Ratio) (c : Canonical l) (m : ℕ) (some : 0 < m) (h : m ≤ 
 -- ---- the promise
 
 module _ (p : Poly) where
-  refused-content : (door_of p ≡ Open → ⊥) → (why : Reason) → ContentPromise p (Refused why)
+  refused-content : (door_of p ≡ Open → ⊥) → (why : Reason) → ContentPromise p (Err why)
   refused-content shut why = record {
     answered = λ e. absurd (shut e);
     lowest = λ s. absurd (never_done why s);
@@ -221,7 +220,7 @@ module _ (p : Poly) where
     divides = λ s. absurd (never_done why s);
   }
 
-  open-content : Opened p → ContentPromise p (Done (content_of (terms_of p)))
+  open-content : Opened p → ContentPromise p (Ok (content_of (terms_of p)))
   open-content o = record {
     answered = λ e. refl;
     lowest = λ s. content-lowest (terms_of p) o.canonical;
@@ -232,7 +231,7 @@ module _ (p : Poly) where
   }
 
   pub content-promise : ContentPromise p (content_for p)
-  content-promise = entered-keeps Refused (ContentPromise p) (door_of p) (Done (content_of (terms_of p))) (λ e. open-content (opened p e)) refused-content
+  content-promise = entered-keeps Err (ContentPromise p) (door_of p) (Ok (content_of (terms_of p))) (λ e. open-content (opened p e)) refused-content
 
-  pub content-both : (s : Step) → s ≡ content_for p → (s ≡ content_for p) × ContentPromise p s
+  pub content-both : (s : Result Ratio Reason) → s ≡ content_for p → (s ≡ content_for p) × ContentPromise p s
   content-both s e = (e, subst (ContentPromise p) (sym e) content-promise)

@@ -1,4 +1,5 @@
 -- What the primitive part is: the polynomial times a rational that isn't zero, its lead above zero, canonical.
+use Rattle.std.specs.Prelude.{Result, Ok, Err}
 use mathlib.Core.Path.{◌≡◌, refl, sym, ap, subst, ◌∙◌}
 use mathlib.Core.Logic.{◌≢◌}
 use mathlib.Core.Bool.{Bool, true, false}
@@ -24,8 +25,6 @@ use Rattle.ratio.specs.Step.{is_nil, neg_of, inv_of}
 use Rattle.ratio.specs.declared.Ratio.{Ratio}
 use Rattle.ratio.specs.declared.Reason.{Reason}
 use Rattle.ratio.specs.declared.Reason.TheVariants.{CoeffOverflow}
-use Rattle.ratio.specs.declared.Step.{Step}
-use Rattle.ratio.specs.declared.Step.TheVariants.{Done, Refused}
 use Rattle.ratio.proofs.Fractions.{no_size, nil-some}
 use Rattle.ratio.proofs.Steps.{value, nil-value, inv-done, inv-fits, inv-is, neg-kept}
 use Rattle.terms.specs.declared.Answer.{Answer}
@@ -84,15 +83,15 @@ turned-above (a ∷ l) c b k m e =
     let h : n < suc (length l) = omega arith in
     let w = each_at _ (suc (length l)) 0 k m e zero_r n h in
     let x : Ratio = get_or (a ∷ l) n zero_r in
-    let u : neg_of x ≡ Done (get_or m n zero_r) = uncounted-done w.before w.after (neg_of x) (get_or m n zero_r) w.is in
-    let v : Done (record { num = neg_ℤ x.num; den = x.den }) ≡ Done (get_or m n zero_r) = sym (neg-kept x (c.lowest n)) ∙ u in
-    let y : neg_ℤ x.num ≡ (get_or m n zero_r).num = ap (λ (t : Step). pick t) v in
+    let u : neg_of x ≡ Ok (get_or m n zero_r) = uncounted-done w.before w.after (neg_of x) (get_or m n zero_r) w.is in
+    let v : Ok (record { num = neg_ℤ x.num; den = x.den }) ≡ Ok (get_or m n zero_r) = sym (neg-kept x (c.lowest n)) ∙ u in
+    let y : neg_ℤ x.num ≡ (get_or m n zero_r).num = ap (λ (t : Result Ratio Reason). pick t) v in
     let q : length m - 1 ≡ n = omega arith in
     ap (λ i. lt_z (get_or m i zero_r).num (pos 0)) q ∙ ap (λ z. lt_z z (pos 0)) (sym y) ∙ negated-sign x.num b
   where
-    pick : Step → ℤ
-    pick (Done r) = r.num
-    pick (Refused why) = pos 0
+    pick : Result Ratio Reason → ℤ
+    pick (Ok r) = r.num
+    pick (Err why) = pos 0
 
 -- ---- the content's inverse
 
@@ -110,7 +109,7 @@ module _ (p : Poly) (o : Opened p) where
   content-none : (content_of F).num ≡ pos 0 → IsZero (reading p)
   content-none e = nil-zero F (content-zero F C (nil-value (content_of F) (content-lowest F C).fraction (ap is_nil e)))
 
-  module _ (c : Ratio) (i : inv_of (content_of F) ≡ Done c) where
+  module _ (c : Ratio) (i : inv_of (content_of F) ≡ Ok c) where
     some-factor : value c ≢ 0ℚ
     some-factor e =
         let f = inv-fits (content_of F) c i in
@@ -171,7 +170,7 @@ module _ (p : Poly) (o : Opened p) where
     scaled-part (ran_over k) e = refused-part CoeffOverflow k
 
   -- the polynomial itself, where its content is zero
-  same-part : door_of p ≡ Open → (why : Reason) → inv_of (content_of F) ≡ Refused why → PrimitivePromise p (done_with p 0)
+  same-part : door_of p ≡ Open → (why : Reason) → inv_of (content_of F) ≡ Err why → PrimitivePromise p (done_with p 0)
   same-part d why i = record {
     is = λ h s. absurd (h zero_one);
     lead = λ h s. absurd (h zero_one);
@@ -186,9 +185,9 @@ module _ (p : Poly) (o : Opened p) where
           go true e = content-none (no_size (content_of F).num (eqb-true (nat_abs (content_of F).num) 0 e))
           go false e = let g = inv-is (content_of F) (content-lowest F C).fraction (nil-some (content_of F).num e) in let z : ◌≡◌ {A = ℕ} 0 1 = cc in absurd (omega arith)
 
-  part-open : door_of p ≡ Open → (s : Step) → inv_of (content_of F) ≡ s → PrimitivePromise p (over_content p s)
-  part-open d (Done c) i = scaled-part c i (scaled plain F c 0) refl
-  part-open d (Refused why) i = same-part d why i
+  part-open : door_of p ≡ Open → (s : Result Ratio Reason) → inv_of (content_of F) ≡ s → PrimitivePromise p (over_content p s)
+  part-open d (Ok c) i = scaled-part c i (scaled plain F c 0) refl
+  part-open d (Err why) i = same-part d why i
 
 shut-part : (p : Poly) → (door_of p ≡ Open → ⊥) → (why : Reason) → PrimitivePromise p (refused_with why 0)
 shut-part p shut why = record { is = λ h s. absurd (never_done why s); lead = λ h s. absurd (never_done why s); of_zero = λ z s. absurd (never_done why s); canonical = open-nil }

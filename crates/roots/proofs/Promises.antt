@@ -1,4 +1,5 @@
 -- Demand 2 and demand 3 for rational roots: the search behind the door keeps the promise, and so does a refusal at the door.
+use Rattle.std.specs.Prelude.{Ok, Err}
 use mathlib.Core.Path.{◌≡◌, refl, sym, ap, ap₂, subst, ◌∙◌}
 use mathlib.Core.Logic.{◌⊎◌, inl, inr, ∥∥₁_elim}
 use mathlib.Core.List.{List, [], map}
@@ -11,9 +12,7 @@ use Rattle.algebra.specs.Textbook.{HasDegree, IsZero, IsRoot}
 use Rattle.algebra.proofs.Theorems.{few-roots}
 use Rattle.algebra.proofs.Whole.{ℤ-ring}
 use Rattle.ratio.specs.Promise.{rat, Lowest}
-use Rattle.ratio.specs.Refusal.{zero_r, outcome_status}
-use Rattle.ratio.specs.declared.Outcome.{Outcome}
-use Rattle.ratio.specs.declared.Outcome.TheVariants as O
+use Rattle.ratio.specs.Refusal.{zero_r, Outcome, status_of}
 use Rattle.ratio.specs.declared.Ratio.{Ratio}
 use Rattle.ratio.specs.declared.Reason.{Reason}
 use Rattle.terms.specs.Machine.{Ran, fine, over}
@@ -37,11 +36,11 @@ use Rattle.roots.specs.Promise.{entry, Stands, RootsPromise}
 
 -- ---- a refusal has no entry
 
-refused-run : (r : Ran Count (List Ratio)) (why : Reason) → (answered r).outcome ≡ O.Refused why → (answered r).len ≡ 0
+refused-run : (r : Ran Count (List Ratio)) (why : Reason) → (answered r).outcome ≡ Err why → (answered r).len ≡ 0
 refused-run (fine c l) why e = let z : ◌≡◌ {A = ℕ} 0 1 = cc in absurd (omega arith)
 refused-run (over c) why e = refl
 
-refused-ended : (l : List Ratio) (budget : ℕ) (r : Roots) → Ended l budget r → (why : Reason) → r.outcome ≡ O.Refused why → r.len ≡ 0
+refused-ended : (l : List Ratio) (budget : ℕ) (r : Roots) → Ended l budget r → (why : Reason) → r.outcome ≡ Err why → r.len ≡ 0
 refused-ended l budget r (early w) why e = refl
 refused-ended l budget r (ran m k c p q g i) why e = refused-run (run_of c) why e
 
@@ -50,8 +49,8 @@ cases : (l : List Ratio) (budget : ℕ) → length l ≤ 32 → Found l (roots_o
 cases l budget few = go (dec_lt 0 (length (trim l)))
   where
     by : 0 < length (trim l) → (o : Outcome) → (roots_of l budget).outcome ≡ o → Found l (roots_of l budget) ⊎ ((roots_of l budget).len ≡ 0)
-    by h O.Done e = inl (roots-found l budget few h e)
-    by h (O.Refused why) e = inr (refused-ended (trim l) budget (roots_for (trim l) budget) (ended (trim l) budget h) why e)
+    by h (Ok _) e = inl (roots-found l budget few h e)
+    by h (Err why) e = inr (refused-ended (trim l) budget (roots_for (trim l) budget) (ended (trim l) budget h) why e)
 
     go : Dec (0 < length (trim l)) → Found l (roots_of l budget) ⊎ ((roots_of l budget).len ≡ 0)
     go (yes h) = by h (roots_of l budget).outcome refl
@@ -117,7 +116,7 @@ module _ (p : Poly) (budget : ℕ) where
         go (yes k) = k
         go (no k) = absurd (h (nil-zero F (sym o.canonical.trimmed ∙ empty_of (trim F) k)))
 
-    found : (IsZero (reading p) → ⊥) → outcome_status R.outcome ≡ 0 → Found F R
+    found : (IsZero (reading p) → ⊥) → status_of R.outcome ≡ 0 → Found F R
     found h s = roots-found F budget o.few (some h) (outcome-done R.outcome s)
 
     by_cases : (P : Type 0) → (Found F R → P) → (R.len ≡ 0 → P) → P
@@ -127,13 +126,13 @@ module _ (p : Poly) (budget : ℕ) where
         go (inl x) = f x
         go (inr x) = g x
 
-    none_of : (outcome_status R.outcome ≡ 0 → ⊥) → R.len ≡ 0
+    none_of : (status_of R.outcome ≡ 0 → ⊥) → R.len ≡ 0
     none_of h = go R.outcome refl (dec_lt 0 (length (trim F)))
       where
         go : (q : Outcome) → R.outcome ≡ q → Dec (0 < length (trim F)) → R.len ≡ 0
-        go O.Done e d = absurd (h (ap outcome_status e))
-        go (O.Refused why) e (yes k) = refused-ended (trim F) budget (roots_for (trim F) budget) (ended (trim F) budget k) why e
-        go (O.Refused why) e (no k) = ap (λ (r : Roots). r.len) (roots-none F budget (empty_of (trim F) k))
+        go (Ok _) e d = absurd (h (ap status_of e))
+        go (Err why) e (yes k) = refused-ended (trim F) budget (roots_for (trim F) budget) (ended (trim F) budget k) why e
+        go (Err why) e (no k) = ap (λ (r : Roots). r.len) (roots-none F budget (empty_of (trim F) k))
 
     zero_is : IsZero (reading p) → R ≡ answered (fine nothing [])
     zero_is z = roots-none F budget (o.canonical.trimmed ∙ zero-nil F o.canonical z)
@@ -145,7 +144,7 @@ module _ (p : Poly) (budget : ℕ) where
       rising = λ i k. by_cases _ (λ f. found-rising F R f i k) (λ e. absurd (omega arith));
       lowest = λ i k. by_cases _ (λ f. found-lowest F R f i k) (λ e. absurd (omega arith));
       refused = none_of;
-      of_zero = λ d b z. let e = zero_is z in (ap (λ (r : Roots). outcome_status r.outcome) e, ap (λ (r : Roots). r.len) e, ap (λ (r : Roots). r.tried) e);
+      of_zero = λ d b z. let e = zero_is z in (ap (λ (r : Roots). status_of r.outcome) e, ap (λ (r : Roots). r.len) e, ap (λ (r : Roots). r.tried) e);
       few = λ n d. by_cases _ (λ f. found-few F R f n d) (λ e. omega arith);
       candidates = (roots-priced F budget).tried;
       price = λ n d.

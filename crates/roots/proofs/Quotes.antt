@@ -1,4 +1,5 @@
 -- Demand 3 for rational roots: no search costs more than the quote from the degree and the budget alone, and what came through the door has a quote.
+use Rattle.ratio.specs.Refusal.{status_of}
 use mathlib.Core.Path.{◌≡◌, sym, ap, ap₂, subst, ◌∙◌}
 use mathlib.Core.Bool.{Bool, true, false}
 use Prim.Native.Nat.{ℕ, ◌+◌, ◌*◌, ◌<◌, ◌≤◌}
@@ -8,7 +9,6 @@ use native.Mathlib.Omega.{arith}
 use borrow.Author.Tests.{le-leb, lt-leb, eq-eqb, ne_eqb, lt-ltb, le-ltb}
 use lib.Dec.{leb}
 use lib.IntN.{ℤ, nat_abs}
-use Rattle.ratio.specs.Refusal.{outcome_status}
 use Rattle.ratio.specs.declared.Reason.{Reason}
 use Rattle.ratio.specs.declared.Reason.TheVariants.{TooLong, BadInput}
 use Rattle.poly.proofs.Canonical.{open-if}
@@ -63,7 +63,7 @@ quote-given true false w x y why p q e = let z : ◌≡◌ {A = ℕ} 0 1 = cc in
 quote-given false t w x y why p q e = let z : ◌≡◌ {A = ℕ} 0 1 = cc in omega arith
 
 -- the root of what is listed is within the budget
-root-within : (a : ℤ) (budget x : ℕ) → outcome_status (listing_of a budget).outcome ≡ 0 → Root (nat_abs a) x → x ≤ budget
+root-within : (a : ℤ) (budget x : ℕ) → status_of (listing_of a budget).outcome ≡ 0 → Root (nat_abs a) x → x ≤ budget
 root-within a budget x s r = go (dec_le x budget)
   where
     go : Dec (x ≤ budget) → x ≤ budget

@@ -3,7 +3,7 @@ use Rattle.std.specs.Prelude.{◌≡◌, ℕ, suc, ◌+◌, ◌*◌, ◌<◌, �
 use Rattle.algebra.specs.Rational.{Rat, Same, Less}
 use Rattle.algebra.specs.Textbook.{HasDegree, IsZero, IsRoot}
 use Rattle.ratio.specs.Promise.{rat, Lowest}
-use Rattle.ratio.specs.Refusal.{zero_r, outcome_status}
+use Rattle.ratio.specs.Refusal.{zero_r, status_of}
 use Rattle.ratio.specs.declared.Ratio.{Ratio}
 use Rattle.ratio.specs.declared.Reason.{Reason}
 use Rattle.terms.specs.declared.Poly.{Poly}
@@ -29,13 +29,13 @@ pub record Stands (x : Rat) (r : Roots) : Type 0 where
   pub is : Same (rat (entry r place)) x
 
 pub record RootsPromise (p : Poly) (budget : ℕ) (r : Roots) : Type 0 where
-  pub sound : (IsZero (reading p) → ⊥) → outcome_status r.outcome ≡ 0 → (i : ℕ) → i < r.len → IsRoot (reading p) (rat (entry r i))
-  pub complete : (IsZero (reading p) → ⊥) → outcome_status r.outcome ≡ 0 → (x : Rat) → IsRoot (reading p) x → Stands x r
+  pub sound : (IsZero (reading p) → ⊥) → status_of r.outcome ≡ 0 → (i : ℕ) → i < r.len → IsRoot (reading p) (rat (entry r i))
+  pub complete : (IsZero (reading p) → ⊥) → status_of r.outcome ≡ 0 → (x : Rat) → IsRoot (reading p) x → Stands x r
   pub rising : (i : ℕ) → suc i < r.len → Less (rat (entry r i)) (rat (entry r (suc i)))
   pub lowest : (i : ℕ) → i < r.len → Lowest (entry r i)
   -- a refusal has no entry; the zero polynomial is answered and has none, and nothing is tried
-  pub refused : (outcome_status r.outcome ≡ 0 → ⊥) → r.len ≡ 0
-  pub of_zero : door_of p ≡ Open → budget_door budget ≡ Open → IsZero (reading p) → (outcome_status r.outcome ≡ 0) × (r.len ≡ 0) × (r.tried ≡ 0)
+  pub refused : (status_of r.outcome ≡ 0 → ⊥) → r.len ≡ 0
+  pub of_zero : door_of p ≡ Open → budget_door budget ≡ Open → IsZero (reading p) → (status_of r.outcome ≡ 0) × (r.len ≡ 0) × (r.tried ≡ 0)
   -- no more than the degree
   pub few : (n : ℕ) → HasDegree (reading p) n → r.len ≤ n
   pub candidates : r.tried ≤ candidates_price budget
@@ -45,6 +45,6 @@ pub record RootsPromise (p : Poly) (budget : ℕ) (r : Roots) : Type 0 where
 pub record QuotesRoots (n budget : ℕ) (q : Quote) : Type 0 where
   pub bounds : (p : Poly) → HasDegree (reading p) n → (t c s : ℕ) → q ≡ Most t c s → ((rational_roots_of p budget).tried ≤ c) × ((rational_roots_of p budget).steps ≤ s)
   -- a listing of a tries the numbers up to the root of its size; a search makes two
-  pub trials : (a b : ℤ) → outcome_status (listing_of a budget).outcome ≡ 0 → outcome_status (listing_of b budget).outcome ≡ 0
+  pub trials : (a b : ℤ) → status_of (listing_of a budget).outcome ≡ 0 → status_of (listing_of b budget).outcome ≡ 0
       → (x y : ℕ) → Root (nat_abs a) x → Root (nat_abs b) y → (t c s : ℕ) → q ≡ Most t c s → x + y ≤ t
   pub quoted : (p : Poly) → door_of p ≡ Open → budget_door budget ≡ Open → HasDegree (reading p) n → (why : Reason) → q ≡ Refused why → ⊥

@@ -13,7 +13,7 @@ ghost use Rattle.roots.specs.Content.{denominator_of, content_of, content_for, i
 ghost use Rattle.roots.specs.Quote.{roots_quote};
 
 use poly::Gate;
-use ratio::{Ratio, Reason, Step};
+use ratio::{Ratio, Reason};
 use search::Roots;
 use terms::{Answer, Poly};
 
@@ -82,8 +82,8 @@ fn denominator(d: Ratio, e: i64) -> Ratio
     ensures { result ≡ denominator_of d e }
 {
     match search::widen(d, e) {
-        Step::Done(m) => m,
-        Step::Refused(_) => d,
+        Ok(m) => m,
+        Err(_) => d,
     }
 }
 
@@ -102,21 +102,21 @@ fn content_terms(p: Poly) -> Ratio
         den = denominator(den, c.den);
         i += 1;
     }
-    let Step::Done(r) = Ratio::new(num as i64, den.num) else {
+    let Ok(r) = Ratio::new(num as i64, den.num) else {
         return Ratio { num: 0, den: 1 };
     };
     r
 }
 
-pub fn content(p: Poly) -> Step
+pub fn content(p: Poly) -> Result<Ratio, Reason>
     ensures is { result ≡ content_for p }
     ensures promise { ContentPromise p result }
 {
     let d = poly::door(p);
     if let Gate::Open = d {
-        Step::Done(content_terms(p))
+        Ok(content_terms(p))
     } else {
-        Step::Refused(poly::reason(d))
+        Err(poly::reason(d))
     }
 }
 
@@ -154,7 +154,7 @@ fn primitive_terms(p: Poly) -> Answer
     requires { door_of p ≡ Open }
     ensures { result ≡ over_content p (inv_of (content_of (terms_of p))) }
 {
-    let Step::Done(c) = ratio::inverse(content_terms(p)) else {
+    let Ok(c) = ratio::inverse(content_terms(p)) else {
         return terms::done(p, 0);
     };
     turned(p.scale(c))

@@ -1,4 +1,5 @@
 -- Laws of the search's answer: two listings, the tally that the work starts from, and the zero polynomial.
+use Rattle.std.specs.Prelude.{Ok, Err}
 use mathlib.Core.Path.{◌≡◌, refl, sym, ap, ◌∙◌}
 use mathlib.Core.Bool.{true, false}
 use mathlib.Core.List.{List, [], ◌∷◌}
@@ -7,13 +8,10 @@ use native.Mathlib.Omega.{arith}
 use lib.IntN.{ℤ, pos, nat_abs}
 use lib.ListN.{length, drop}
 use lib.Dec.{ltb}
-use Rattle.ratio.specs.Refusal.{outcome_status}
-use Rattle.ratio.specs.declared.Outcome.{Outcome}
-use Rattle.ratio.specs.declared.Outcome.TheVariants as O
+use Rattle.ratio.specs.Refusal.{Outcome, status_of, no_refusal}
 use Rattle.ratio.specs.declared.Ratio.{Ratio}
 use Rattle.ratio.specs.declared.Reason.{Reason}
 use Rattle.ratio.specs.declared.Reason.TheVariants.{CoeffOverflow}
-use Rattle.ratio.specs.declared.Step.TheVariants as S
 use Rattle.terms.specs.Machine.{Ran, fine, over, whole_r}
 use Rattle.terms.specs.Poly.{terms_of}
 use Rattle.terms.proofs.Lists.{terms-of-poly}
@@ -31,11 +29,11 @@ use Rattle.search.specs.Answer.{no_roots, answered, nothing, when_listed, listed
 -- ---- a listing
 
 module _ (n : ℤ) (budget : ℕ) (k : List ℤ → Roots) (l : Listing) (e : l ≡ listing_of n budget) where
-  pub listed-done : Lists n budget l → l.outcome ≡ O.Done → k (listed l) ≡ listed_then n budget k
+  pub listed-done : Lists n budget l → l.outcome ≡ no_refusal → k (listed l) ≡ listed_then n budget k
   listed-done p d =
-      ap k (p.order (ap outcome_status d)) ∙ ap (λ (o : Outcome). when_listed o (k (factors_of (nat_abs n)))) (sym d ∙ ap (λ (x : Listing). x.outcome) e)
+      ap k (p.order (ap status_of d)) ∙ ap (λ (o : Outcome). when_listed o (k (factors_of (nat_abs n)))) (sym d ∙ ap (λ (x : Listing). x.outcome) e)
 
-  pub listed-refused : (why : Reason) → l.outcome ≡ O.Refused why → no_roots why 0 0 ≡ listed_then n budget k
+  pub listed-refused : (why : Reason) → l.outcome ≡ Err why → no_roots why 0 0 ≡ listed_then n budget k
   listed-refused why d = ap (λ (o : Outcome). when_listed o (k (factors_of (nat_abs n)))) (sym d ∙ ap (λ (x : Listing). x.outcome) e)
 
 -- ---- the whole
@@ -51,10 +49,10 @@ some-roots [] budget h = absurd (omega arith)
 some-roots (a ∷ l) budget h = refl
 
 module _ (l : List Ratio) (budget : ℕ) (h : 0 < length l) where
-  pub multiple-over : (why : Reason) → multiple_from l (whole_r (pos 1)) ≡ S.Refused why → no_roots CoeffOverflow 0 0 ≡ roots_for l budget
+  pub multiple-over : (why : Reason) → multiple_from l (whole_r (pos 1)) ≡ Err why → no_roots CoeffOverflow 0 0 ≡ roots_for l budget
   multiple-over why e = ap (cleared_then l budget) (sym e) ∙ some-roots l budget h
 
-  module _ (m : Ratio) (e : multiple_from l (whole_r (pos 1)) ≡ S.Done m) (c : Cleared) (f : c ≡ clear_of (cleared_by m l)) where
+  module _ (m : Ratio) (e : multiple_from l (whole_r (pos 1)) ≡ Ok m) (c : Cleared) (f : c ≡ clear_of (cleared_by m l)) where
     by-multiple : searched_whole budget (cleared_by m l) ≡ roots_for l budget
     by-multiple = ap (cleared_then l budget) (sym e) ∙ some-roots l budget h
 

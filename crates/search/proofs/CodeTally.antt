@@ -1,4 +1,5 @@
 -- Laws of the tally: what a tally that isn't refused holds, one candidate more, and the walks over listings, their turns, ends and refusals.
+use Rattle.std.specs.Prelude.{Ok, Err}
 use mathlib.Core.Path.{◌≡◌, refl, sym, ap, ap₂, ◌∙◌}
 use mathlib.Core.Bool.{true, false}
 use mathlib.Core.List.{List, [], ◌∷◌}
@@ -9,7 +10,6 @@ use lib.ListN.{length, replicate}
 use lib.Seq.{take-append_seam}
 use Rattle.ratio.specs.declared.Ratio.{Ratio}
 use Rattle.ratio.specs.declared.Reason.{Reason}
-use Rattle.ratio.specs.declared.Step.TheVariants.{Done, Refused}
 use Rattle.ratio.specs.Refusal.{zero_r}
 use Rattle.ratio.specs.Step.{is_nil, new_of}
 use Rattle.divisors.specs.Walk.{rest}
@@ -72,11 +72,11 @@ module _ (l : List Ratio) (p q : ℤ) (t : Tally) (e : Tallied t) where
   unfolding try_one
   one_none z = e ∙ ap (λ b. tally_of (unless_zero b (count_of t) (kept_list t) (try_at l (new_of p q) (count_of t) (kept_list t)))) (sym z)
 
-  pub one-refused : (why : Reason) → is_nil q ≡ false → new_of p q ≡ Refused why → halted_at t.tried t.steps ≡ tally_of (try_one l p q (count_of t) (kept_list t))
+  pub one-refused : (why : Reason) → is_nil q ≡ false → new_of p q ≡ Err why → halted_at t.tried t.steps ≡ tally_of (try_one l p q (count_of t) (kept_list t))
   unfolding try_one
   one-refused why z n = ap₂ (λ b s. tally_of (unless_zero b (count_of t) (kept_list t) (try_at l s (count_of t) (kept_list t)))) (sym z) (sym n)
 
-  module _ (x : Ratio) (z : is_nil q ≡ false) (n : new_of p q ≡ Done x) (v : Valued) (w : v ≡ valued_of (valued plain l x (whole_r (pos 1)) zero_r t.steps)) where
+  module _ (x : Ratio) (z : is_nil q ≡ false) (n : new_of p q ≡ Ok x) (v : Valued) (w : v ≡ valued_of (valued plain l x (whole_r (pos 1)) zero_r t.steps)) where
     abbrev after : Ran ℕ Ratio → Ran Count (List Ratio)
     after r = and_then (noted t.tried r) (λ c y. fine c (kept_if (is_nil y.num) x (kept_list t)))
 

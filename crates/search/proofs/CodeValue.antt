@@ -1,4 +1,5 @@
 -- Laws of a value whose steps are counted on: a loop that has worked through the first i coefficients, its turn, its end and its refusals.
+use Rattle.std.specs.Prelude.{Ok, Err}
 use mathlib.Core.Path.{◌≡◌, refl}
 use mathlib.Core.List.{List, []}
 use Prim.Native.Nat.{ℕ, suc, ◌+◌, ◌<◌, ◌≤◌}
@@ -11,7 +12,6 @@ use Rattle.ratio.specs.Refusal.{zero_r}
 use Rattle.ratio.specs.Step.{add_of, mul_of}
 use Rattle.ratio.specs.declared.Ratio.{Ratio}
 use Rattle.ratio.specs.declared.Reason.{Reason}
-use Rattle.ratio.specs.declared.Step.TheVariants.{Done, Refused}
 use Rattle.terms.specs.Machine.{Ran, fine, over, plain, whole_r}
 use Rattle.terms.specs.Work.{valued}
 
@@ -27,25 +27,25 @@ module _ (l : List Ratio) (x : Ratio) (start : ℕ) where
   valuing-none = record { whole = refl }
 
   module _ (i : ℕ) (power sum : Ratio) (count : ℕ) (h : i < length l) (v : Valuing i power sum count) where
-    pub valuing-more : (t s p : Ratio) → mul_of (get_or l i zero_r) power ≡ Done t → add_of sum t ≡ Done s → mul_of power x ≡ Done p → Valuing (i + 1) p s (count + 3)
+    pub valuing-more : (t s p : Ratio) → mul_of (get_or l i zero_r) power ≡ Ok t → add_of sum t ≡ Ok s → mul_of power x ≡ Ok p → Valuing (i + 1) p s (count + 3)
     unfolding valued
     valuing-more t s p e f g =
         let n : count + 3 ≡ suc (suc (suc count)) = omega arith in
         record { whole = rw (n, add-one i) (rw (drop-cons l i zero_r h, e, f, g) at v.whole) }
 
-    pub first-over : (why : Reason) → mul_of (get_or l i zero_r) power ≡ Refused why → over (count + 1) ≡ whole-value
+    pub first-over : (why : Reason) → mul_of (get_or l i zero_r) power ≡ Err why → over (count + 1) ≡ whole-value
     unfolding valued
     first-over why e =
         let n : count + 1 ≡ suc count = omega arith in
         rw n (rw (drop-cons l i zero_r h, e) at v.whole)
 
-    pub second-over : (t : Ratio) (why : Reason) → mul_of (get_or l i zero_r) power ≡ Done t → add_of sum t ≡ Refused why → over (count + 2) ≡ whole-value
+    pub second-over : (t : Ratio) (why : Reason) → mul_of (get_or l i zero_r) power ≡ Ok t → add_of sum t ≡ Err why → over (count + 2) ≡ whole-value
     unfolding valued
     second-over t why e f =
         let n : count + 2 ≡ suc (suc count) = omega arith in
         rw n (rw (drop-cons l i zero_r h, e, f) at v.whole)
 
-    pub third-over : (t s : Ratio) (why : Reason) → mul_of (get_or l i zero_r) power ≡ Done t → add_of sum t ≡ Done s → mul_of power x ≡ Refused why → over (count + 3) ≡ whole-value
+    pub third-over : (t s : Ratio) (why : Reason) → mul_of (get_or l i zero_r) power ≡ Ok t → add_of sum t ≡ Ok s → mul_of power x ≡ Err why → over (count + 3) ≡ whole-value
     unfolding valued
     third-over t s why e f g =
         let n : count + 3 ≡ suc (suc (suc count)) = omega arith in

@@ -1,4 +1,6 @@
 -- Laws of the rising list: a fraction put into it comes to stand in it once, nothing is lost, and it rises still.
+use Rattle.ratio.specs.declared.Reason.{Reason}
+use Rattle.std.specs.Prelude.{Result, Ok}
 use mathlib.Core.Path.{◌≡◌, refl, sym, ap, subst, ◌∙◌}
 use mathlib.Core.Logic.{◌⊎◌, inl, inr, ∥∥₁_elim}
 use mathlib.Core.HLevel.{¬_prop}
@@ -13,7 +15,7 @@ use Rattle.algebra.proofs.RationalOrder.{less-irrefl, less-trans, compare_q}
 use Rattle.algebra.proofs.WholeOrder.{Three, less, same, more}
 use Rattle.ratio.specs.Promise.{rat, Fraction, Lowest}
 use Rattle.ratio.specs.Refusal.{zero_r}
-use Rattle.ratio.specs.declared.Order.{Order}
+use Rattle.std.specs.declared.cmp.Ordering.{Ordering}
 use Rattle.ratio.specs.declared.Ratio.{Ratio}
 use Rattle.ratio.proofs.Steps.{lowest-equal, cmp-less, cmp-equal, cmp-greater}
 use Rattle.search.specs.Keep.{turned_by, carry, placed}
@@ -83,7 +85,7 @@ pub placed-front : (x : Ratio) (l : List Ratio) → Fraction x → All Lowest l 
 unfolding placed
 placed-front x [] f none none nothing = refl
 placed-front x (a ∷ l) f (each p ps) (each h hs) (first b s) =
-    ap (λ (o : Order). carry (turned_by o x a) (a ∷ l) (λ y. placed y l)) (cmp-less x a f p.fraction h) ∙ ap (λ t. x ∷ t) (placed-front a l p.fraction ps b s)
+    ap (λ (o : Result Ordering Reason). carry (turned_by o x a) (a ∷ l) (λ y. placed y l)) (cmp-less x a f p.fraction h) ∙ ap (λ t. x ∷ t) (placed-front a l p.fraction ps b s)
 
 -- what is put in is all that is new; nothing is lost
 pub record Placed (x : Ratio) (l r : List Ratio) : Type 1 where
@@ -127,6 +129,6 @@ placed-is x (a ∷ l) f (each p ps) (first b s) = go (compare_q (rat x) (rat a))
     go (less h) again =
         subst (Placed x (a ∷ l)) (sym (placed-front x (a ∷ l) f.fraction (each p ps) (each h (all_weaker (λ y k. less-trans (rat x) (rat a) (rat y) h k) l b)) (first b s))) (placed_less x a l h (first b s))
     go (same e) again =
-        subst (Placed x (a ∷ l)) (sym (ap (λ (o : Order). carry (turned_by o x a) (a ∷ l) (λ y. placed y l)) (cmp-equal x a f.fraction p.fraction e))) (placed_same x a l (lowest-equal x a f p e) (first b s))
+        subst (Placed x (a ∷ l)) (sym (ap (λ (o : Result Ordering Reason). carry (turned_by o x a) (a ∷ l) (λ y. placed y l)) (cmp-equal x a f.fraction p.fraction e))) (placed_same x a l (lowest-equal x a f p e) (first b s))
     go (more h) again =
-        subst (Placed x (a ∷ l)) (sym (ap (λ (o : Order). carry (turned_by o x a) (a ∷ l) (λ y. placed y l)) (cmp-greater x a f.fraction p.fraction h))) (placed-more x a l (placed x l) h (first b s) again)
+        subst (Placed x (a ∷ l)) (sym (ap (λ (o : Result Ordering Reason). carry (turned_by o x a) (a ∷ l) (λ y. placed y l)) (cmp-greater x a f.fraction p.fraction h))) (placed-more x a l (placed x l) h (first b s) again)

@@ -1,4 +1,5 @@
 -- The whole search: how it can end, and what an answered one means for the polynomial that was handed in.
+use Rattle.std.specs.Prelude.{Result, Ok, Err}
 use mathlib.Core.Path.{◌≡◌, refl, sym, ap, subst, ◌∙◌}
 use mathlib.Core.Bool.{false}
 use mathlib.Core.List.{List, [], ◌∷◌}
@@ -13,15 +14,11 @@ use Rattle.algebra.proofs.ListWords.{root-to, root-from}
 use Rattle.algebra.proofs.Rational.{ℚ-ring, 0ℚ, val}
 use Rattle.algebra.proofs.Evaluation.{ev}
 use Rattle.ratio.specs.Promise.{rat}
-use Rattle.ratio.specs.Refusal.{zero_r}
+use Rattle.ratio.specs.Refusal.{zero_r, Outcome, no_refusal}
 use Rattle.ratio.specs.Step.{is_nil}
-use Rattle.ratio.specs.declared.Outcome.{Outcome}
-use Rattle.ratio.specs.declared.Outcome.TheVariants as O
 use Rattle.ratio.specs.declared.Ratio.{Ratio}
 use Rattle.ratio.specs.declared.Reason.{Reason}
 use Rattle.ratio.specs.declared.Reason.TheVariants.{CoeffOverflow}
-use Rattle.ratio.specs.declared.Step.{Step}
-use Rattle.ratio.specs.declared.Step.TheVariants as S
 use Rattle.terms.specs.Machine.{Ran, fine, over, whole_r}
 use Rattle.terms.specs.Meaning.{rats}
 use Rattle.terms.specs.Poly.{trim}
@@ -59,27 +56,27 @@ run_of c = try_all (stripped c) (factors_of (nat_abs (first_of c))) (factors_of 
 -- refused before a candidate is tried, or all candidates are tried until one is refused
 pub data Ended (l : List Ratio) (budget : ℕ) : Roots → Type 0 where
   early : (why : Reason) → Ended l budget (no_roots why 0 0)
-  ran : (m : Ratio) (k : ℕ) (c : List Ratio) → multiple_from l (whole_r (pos 1)) ≡ S.Done m → cleared_by m l ≡ fine k c
-      → (listing_of (first_of c) budget).outcome ≡ O.Done → (listing_of (last_of c) budget).outcome ≡ O.Done → Ended l budget (answered (run_of c))
+  ran : (m : Ratio) (k : ℕ) (c : List Ratio) → multiple_from l (whole_r (pos 1)) ≡ Ok m → cleared_by m l ≡ fine k c
+      → (listing_of (first_of c) budget).outcome ≡ no_refusal → (listing_of (last_of c) budget).outcome ≡ no_refusal → Ended l budget (answered (run_of c))
 
 pub ended : (l : List Ratio) (budget : ℕ) → 0 < length l → Ended l budget (roots_for l budget)
 unfolding roots_for searched_in
 ended [] budget h = absurd (omega arith)
 ended (a ∷ l) budget h = multiples (multiple_from (a ∷ l) (whole_r (pos 1))) refl
   where
-    listings : (m : Ratio) (k : ℕ) (c : List Ratio) → multiple_from (a ∷ l) (whole_r (pos 1)) ≡ S.Done m → cleared_by m (a ∷ l) ≡ fine k c
+    listings : (m : Ratio) (k : ℕ) (c : List Ratio) → multiple_from (a ∷ l) (whole_r (pos 1)) ≡ Ok m → cleared_by m (a ∷ l) ≡ fine k c
         → (o p : Outcome) → (listing_of (first_of c) budget).outcome ≡ o → (listing_of (last_of c) budget).outcome ≡ p → Ended (a ∷ l) budget (when_listed o (when_listed p (answered (run_of c))))
-    listings m k c e f O.Done O.Done g i = ran m k c e f g i
-    listings m k c e f O.Done (O.Refused why) g i = early why
-    listings m k c e f (O.Refused why) p g i = early why
+    listings m k c e f (Ok _) (Ok _) g i = ran m k c e f g i
+    listings m k c e f (Ok _) (Err why) g i = early why
+    listings m k c e f (Err why) p g i = early why
 
-    clearings : (m : Ratio) → multiple_from (a ∷ l) (whole_r (pos 1)) ≡ S.Done m → (r : Ran ℕ (List Ratio)) → cleared_by m (a ∷ l) ≡ r → Ended (a ∷ l) budget (searched_whole budget r)
+    clearings : (m : Ratio) → multiple_from (a ∷ l) (whole_r (pos 1)) ≡ Ok m → (r : Ran ℕ (List Ratio)) → cleared_by m (a ∷ l) ≡ r → Ended (a ∷ l) budget (searched_whole budget r)
     clearings m e (fine k c) f = listings m k c e f (listing_of (first_of c) budget).outcome (listing_of (last_of c) budget).outcome refl refl
     clearings m e (over k) f = early CoeffOverflow
 
-    multiples : (s : Step) → multiple_from (a ∷ l) (whole_r (pos 1)) ≡ s → Ended (a ∷ l) budget (cleared_then (a ∷ l) budget s)
-    multiples (S.Done m) e = clearings m e (cleared_by m (a ∷ l)) refl
-    multiples (S.Refused why) e = early CoeffOverflow
+    multiples : (s : Result Ratio Reason) → multiple_from (a ∷ l) (whole_r (pos 1)) ≡ s → Ended (a ∷ l) budget (cleared_then (a ∷ l) budget s)
+    multiples (Ok m) e = clearings m e (cleared_by m (a ∷ l)) refl
+    multiples (Err why) e = early CoeffOverflow
 
 -- ---- what an answered one means
 
@@ -92,7 +89,7 @@ pub record Found (l : List Ratio) (r : Roots) : Type 0 where
   pub complete : (x : Rat) → IsRoot (rats l) x → Has (λ b. Same (rat b) x) kept
 
 module _ (l : List Ratio) (budget : ℕ) (some : 0 < length l) (few : length l ≤ 32) (top : is_nil (get_or l (length l - 1) zero_r).num ≡ false)
-    (k : ℕ) (c : List Ratio) (n : ℕ) (m : Ratio) (M : Multiple l 1 m) (f : cleared_by m l ≡ fine k c) (g : (listing_of (first_of c) budget).outcome ≡ O.Done) (i : (listing_of (last_of c) budget).outcome ≡ O.Done) where
+    (k : ℕ) (c : List Ratio) (n : ℕ) (m : Ratio) (M : Multiple l 1 m) (f : cleared_by m l ≡ fine k c) (g : (listing_of (first_of c) budget).outcome ≡ no_refusal) (i : (listing_of (last_of c) budget).outcome ≡ no_refusal) where
   cleared : cleared_by (whole_r (pos M.number)) l ≡ fine k c
   cleared = ap (λ r. cleared_by r l) (sym M.is) ∙ f
 
@@ -110,7 +107,7 @@ module _ (l : List Ratio) (budget : ℕ) (some : 0 < length l) (few : length l �
       let (t, p, e) = cleared_at l M.number M.some M.all k c cleared (length l - 1) (omega arith) in
       ap (λ q. is_nil (get_or c q zero_r).num) j ∙ ap (λ (r : Ratio). is_nil r.num) e ∙ times-nil (get_or l (length l - 1) zero_r).num t p top
 
-  run-found : (r : Ran Count (List Ratio)) → run_of c ≡ r → (answered r).outcome ≡ O.Done → Found l (answered r)
+  run-found : (r : Ran Count (List Ratio)) → run_of c ≡ r → (answered r).outcome ≡ no_refusal → Found l (answered r)
   run-found (fine d kept) e o =
       let q = kept-good c entire (omega (arith, long)) (omega (arith, long)) lead budget g i d kept e in
       record {
@@ -126,7 +123,7 @@ module _ (l : List Ratio) (budget : ℕ) (some : 0 < length l) (few : length l �
       }
   run-found (over d) e o = let z : ◌≡◌ {A = ℕ} 0 1 = cc in absurd (omega arith)
 
-found-for : (l : List Ratio) (budget : ℕ) → 0 < length l → length l ≤ 32 → is_nil (get_or l (length l - 1) zero_r).num ≡ false → (r : Roots) → Ended l budget r → r.outcome ≡ O.Done → Found l r
+found-for : (l : List Ratio) (budget : ℕ) → 0 < length l → length l ≤ 32 → is_nil (get_or l (length l - 1) zero_r).num ≡ false → (r : Roots) → Ended l budget r → r.outcome ≡ no_refusal → Found l r
 found-for l budget some few top r (early why) o = let z : ◌≡◌ {A = ℕ} 0 1 = cc in absurd (omega arith)
 found-for l budget some few top r (ran m k c e f g i) o = run-found l budget some few top k c 0 m (multiple-is l 1 m (omega arith) e) f g i (run_of c) refl o
 
@@ -137,7 +134,7 @@ trim-root l x r = root-from (rats l) x (subst (λ p. ev ℚ-ring p (val x) ≡ 0
 root-trim : (l : List Ratio) (x : Rat) → IsRoot (rats l) x → IsRoot (rats (trim l)) x
 root-trim l x r = root-from (rats (trim l)) x (subst (λ p. ev ℚ-ring p (val x) ≡ 0ℚ) (sym (poly_r-trim l)) (root-to (rats l) x r))
 
-pub roots-found : (l : List Ratio) (budget : ℕ) → length l ≤ 32 → 0 < length (trim l) → (roots_of l budget).outcome ≡ O.Done → Found l (roots_of l budget)
+pub roots-found : (l : List Ratio) (budget : ℕ) → length l ≤ 32 → 0 < length (trim l) → (roots_of l budget).outcome ≡ no_refusal → Found l (roots_of l budget)
 roots-found l budget few some o =
     let f = found-for (trim l) budget some (omega (arith, trim-short l)) (trim-lead l some) (roots_for (trim l) budget) (ended (trim l) budget some) o in
     record {

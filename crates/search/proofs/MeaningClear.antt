@@ -1,4 +1,6 @@
 -- What clearing denominators means: whole coefficients, each the input's times one whole number above zero, so that the roots are the same.
+use Rattle.ratio.specs.declared.Reason.{Reason}
+use Rattle.std.specs.Prelude.{Result, Ok, Err}
 use mathlib.Core.Path.{◌≡◌, refl, sym, ap, subst, ◌∙◌}
 use mathlib.Core.Logic.{◌≢◌}
 use mathlib.Core.Bool.{Bool, true, false}
@@ -24,13 +26,11 @@ use Rattle.algebra.proofs.Lists.{◌*P◌}
 use Rattle.algebra.proofs.ListWords.{root-to, root-from}
 use Rattle.ratio.specs.Gcd.{gcd_of, IsGcd}
 use Rattle.ratio.specs.Promise.{Lowest}
-use Rattle.ratio.specs.Range.{Within}
+use Rattle.ratio.specs.Range.{Within, need}
 use Rattle.ratio.specs.Refusal.{zero_r}
-use Rattle.ratio.specs.Step.{is_nil, need, mul_of}
+use Rattle.ratio.specs.Step.{is_nil, mul_of}
 use Rattle.ratio.specs.declared.Ratio.{Ratio}
 use Rattle.ratio.specs.declared.Reason.TheVariants.{CoeffOverflow}
-use Rattle.ratio.specs.declared.Step.{Step}
-use Rattle.ratio.specs.declared.Step.TheVariants.{Done, Refused}
 use Rattle.ratio.proofs.Fractions.{nil-some}
 use Rattle.ratio.proofs.Words.{size_above}
 use Rattle.ratio.proofs.Euclid.{is-gcd}
@@ -53,16 +53,16 @@ whole-lowest z h = record {
   coprime = λ k x y. eq-one_of_dvd-one y;
 }
 
-pub whole-product : (x y : ℤ) (r : Ratio) → mul_of (whole_r x) (whole_r y) ≡ Done r → r ≡ whole_r (x *ℤ y)
+pub whole-product : (x y : ℤ) (r : Ratio) → mul_of (whole_r x) (whole_r y) ≡ Ok r → r ≡ whole_r (x *ℤ y)
 whole-product x y r e =
     lowest-equal r (whole_r (x *ℤ y)) (mul-done (whole_r x) (whole_r y) r e).1 (whole-lowest (x *ℤ y) (mul-fits (whole_r x) (whole_r y) r e).upper) (mul-done (whole_r x) (whole_r y) r e).0
 
 -- ---- a denominator
 
-above-done : (d : ℤ) (s : Step) (r : Ratio) → above d s ≡ Done r → (lt_z (pos 0) d ≡ true) × (s ≡ Done r)
+above-done : (d : ℤ) (s : Result Ratio Reason) (r : Ratio) → above d s ≡ Ok r → (lt_z (pos 0) d ≡ true) × (s ≡ Ok r)
 above-done d s r e = go (lt_z (pos 0) d) refl e
   where
-    go : (t : Bool) → lt_z (pos 0) d ≡ t → need t CoeffOverflow s ≡ Done r → (lt_z (pos 0) d ≡ true) × (s ≡ Done r)
+    go : (t : Bool) → lt_z (pos 0) d ≡ t → need t CoeffOverflow s ≡ Ok r → (lt_z (pos 0) d ≡ true) × (s ≡ Ok r)
     go true p q = (p, q)
     go false p q = let z : ◌≡◌ {A = ℕ} 0 1 = cc in absurd (omega arith)
 
@@ -118,21 +118,21 @@ module _ (k e : ℕ) (p : 0 < k) (q : 0 < e) where
       regroup : (x g y : ℕ) → x * (y * g) ≡ x * g * y
       regroup x g y = omega arith
 
-widened_is : (k : ℕ) (d : ℤ) (m : Ratio) → widened (whole_r (pos k)) d ≡ Done m → (e : ℕ) × (d ≡ pos e) × (0 < e) × (m ≡ whole_r (pos (k * (e / gcd_of k e))))
+widened_is : (k : ℕ) (d : ℤ) (m : Ratio) → widened (whole_r (pos k)) d ≡ Ok m → (e : ℕ) × (d ≡ pos e) × (0 < e) × (m ≡ whole_r (pos (k * (e / gcd_of k e))))
 unfolding widened
 widened_is k (pos e) m w =
     let a = above-done (pos e) _ m w in
     (e, refl, ltb-true 0 e a.0, whole-product (pos k) (pos (e / gcd_of k e)) m a.1)
 widened_is k (negsuc e) m w = let z : ◌≡◌ {A = ℕ} 0 1 = cc in absurd (omega arith)
 
-pub multiple-is : (l : List Ratio) (k : ℕ) (r : Ratio) → 0 < k → multiple_from l (whole_r (pos k)) ≡ Done r → Multiple l k r
+pub multiple-is : (l : List Ratio) (k : ℕ) (r : Ratio) → 0 < k → multiple_from l (whole_r (pos k)) ≡ Ok r → Multiple l k r
 unfolding multiple_from
 multiple-is [] k r p w = let e : whole_r (pos k) ≡ r = cc in record { number = k; is = sym e; some = p; grows = dvd_refl k; all = none }
 multiple-is (a ∷ l) k r p w = go (widened (whole_r (pos k)) a.den) refl w (multiple-is l)
   where
-    go : (s : Step) → widened (whole_r (pos k)) a.den ≡ s → go_on s (λ m. multiple_from l m) ≡ Done r
-        → ((k : ℕ) (r : Ratio) → 0 < k → multiple_from l (whole_r (pos k)) ≡ Done r → Multiple l k r) → Multiple (a ∷ l) k r
-    go (Done m) u v again =
+    go : (s : Result Ratio Reason) → widened (whole_r (pos k)) a.den ≡ s → go_on s (λ m. multiple_from l m) ≡ Ok r
+        → ((k : ℕ) (r : Ratio) → 0 < k → multiple_from l (whole_r (pos k)) ≡ Ok r → Multiple l k r) → Multiple (a ∷ l) k r
+    go (Ok m) u v again =
         let (e, d, q, i) = widened_is k a.den m u in
         let n = again (next k e p q) r (next-some k e p q) (ap (multiple_from l) (sym i) ∙ v) in
         record {
@@ -142,7 +142,7 @@ multiple-is (a ∷ l) k r p w = go (widened (whole_r (pos k)) a.den) refl w (mul
           grows = dvd_trans k (next-left k e p q) n.grows;
           all = each (record { den = e; is = d; some = q; divides = dvd_trans e (next-right k e p q) n.grows }) n.all;
         }
-    go (Refused why) u v again = let z : ◌≡◌ {A = ℕ} 0 1 = cc in absurd (omega arith)
+    go (Err why) u v again = let z : ◌≡◌ {A = ℕ} 0 1 = cc in absurd (omega arith)
 
 -- ---- the coefficients
 
@@ -158,7 +158,7 @@ module _ {A : Type 0} (R : CRing A) where
 abbrev pub times : {n : ℕ} {a : Ratio} → Divided n a → ℕ
 times {n} d = n / d.den
 
-module _ (n : ℕ) (a y : Ratio) (p : 0 < n) (d : Divided n a) (e : cleared_one (whole_r (pos n)) a ≡ Done y) where
+module _ (n : ℕ) (a y : Ratio) (p : 0 < n) (d : Divided n a) (e : cleared_one (whole_r (pos n)) a ≡ Ok y) where
   pub cleared-is : y ≡ whole_r (a.num *ℤ pos (times d))
   unfolding cleared_one
   cleared-is =
@@ -182,7 +182,7 @@ module _ (n : ℕ) (a y : Ratio) (p : 0 < n) (d : Divided n a) (e : cleared_one 
 -- ---- the whole list
 
 module _ (l : List Ratio) (n : ℕ) (p : 0 < n) (h : All (Divided n) l) (k : ℕ) (c : List Ratio) (e : cleared_by (whole_r (pos n)) l ≡ fine k c) where
-  answered-at : (i : ℕ) (y : Ratio) → AnsweredAt (λ i n'. uncounted n' (cleared_one (whole_r (pos n)) (get_or l i zero_r))) i y → cleared_one (whole_r (pos n)) (get_or l i zero_r) ≡ Done y
+  answered-at : (i : ℕ) (y : Ratio) → AnsweredAt (λ i n'. uncounted n' (cleared_one (whole_r (pos n)) (get_or l i zero_r))) i y → cleared_one (whole_r (pos n)) (get_or l i zero_r) ≡ Ok y
   answered-at i y a = uncounted-done a.before a.after (cleared_one (whole_r (pos n)) (get_or l i zero_r)) y a.is
 
   pub cleared-length : length c ≡ length l

@@ -1,4 +1,5 @@
 -- What an answered search means: the roots found are those of the polynomial, all of them, rising, in lowest terms.
+use Rattle.std.specs.Prelude.{Ok}
 use mathlib.Core.Path.{◌≡◌, refl, sym, ap, ap₂, subst, ◌∙◌}
 use mathlib.Core.Logic.{◌⊎◌, inl, inr, ∥∥₁_elim}
 use mathlib.Core.Bool.{Bool, true, false}
@@ -23,9 +24,8 @@ use Rattle.algebra.proofs.ListWords.{degree-from, root-to, root-from}
 use Rattle.algebra.proofs.Theorems.{few-roots, root-numerator, root-denominator}
 use Rattle.ratio.specs.Promise.{rat, Lowest, Fraction}
 use Rattle.ratio.specs.Range.{Within}
-use Rattle.ratio.specs.Refusal.{zero_r, outcome_status}
+use Rattle.ratio.specs.Refusal.{zero_r, status_of, no_refusal}
 use Rattle.ratio.specs.Step.{is_nil}
-use Rattle.ratio.specs.declared.Outcome.TheVariants as O
 use Rattle.ratio.specs.declared.Ratio.{Ratio}
 use Rattle.ratio.proofs.Fractions.{nil-some}
 use Rattle.ratio.proofs.Words.{size_above}
@@ -56,9 +56,9 @@ count-has z (a ∷ l) h = go (same_z z a) refl h (count-has z l)
     go true e h again = here (same-eq z a e)
     go false e h again = there (again h)
 
-listed_has : (n : ℤ) (budget : ℕ) (z : ℤ) → (listing_of n budget).outcome ≡ O.Done → is_nil n ≡ false → Dvdℤ z n → Has (λ y. z ≡ y) (factors_of (nat_abs n))
+listed_has : (n : ℤ) (budget : ℕ) (z : ℤ) → (listing_of n budget).outcome ≡ no_refusal → is_nil n ≡ false → Dvdℤ z n → Has (λ y. z ≡ y) (factors_of (nat_abs n))
 listed_has n budget z d e (k, f) =
-    let s : outcome_status (listing_of n budget).outcome ≡ 0 = ap outcome_status d in
+    let s : status_of (listing_of n budget).outcome ≡ 0 = ap status_of d in
     let c = (lists n budget).divisors s (nil-some n e) z (record { quotient = k; is = f }) in
     let o = (lists n budget).order s in
     let m : count_of z (factors_of (nat_abs n)) ≡ 1 = ap (count_of z) (sym o) ∙ c in
@@ -147,7 +147,7 @@ module _ (c : List Ratio) (h : All Entire c) (some : 0 < length c) (few : length
       go true e = record { sorted = first none nothing-sorted; lowest = each zero-lowest none; roots = each (strip-zero c (ltb-true 0 (zeros c) e)) none }
       go false e = record { sorted = nothing-sorted; lowest = none; roots = none }
 
-  module _ (budget : ℕ) (first-listed : (listing_of (get_or left 0 zero_r).num budget).outcome ≡ O.Done) (last-listed : (listing_of (get_or left (length left - 1) zero_r).num budget).outcome ≡ O.Done)
+  module _ (budget : ℕ) (first-listed : (listing_of (get_or left 0 zero_r).num budget).outcome ≡ no_refusal) (last-listed : (listing_of (get_or left (length left - 1) zero_r).num budget).outcome ≡ no_refusal)
       (d : Count) (kept : List Ratio) (e : try_all left (factors_of (nat_abs (get_or left 0 zero_r).num)) (factors_of (nat_abs (get_or left (length left - 1) zero_r).num)) nothing begun ≡ fine d kept) where
     grown : Grows Root begun kept
     grown = all-grows left Root (λ x. strip-sound c (rat x)) room _ _ nothing d begun kept good-begun e

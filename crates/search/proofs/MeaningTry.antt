@@ -1,4 +1,6 @@
 -- What the candidates tried come to: all that is kept is a root, in lowest terms, the list rises, nothing kept is lost, and each candidate that is a root is kept.
+use Rattle.ratio.specs.declared.Reason.{Reason}
+use Rattle.std.specs.Prelude.{Result, Ok, Err}
 use mathlib.Core.Path.{◌≡◌, refl, sym, ap, subst, ◌∙◌}
 use mathlib.Core.Bool.{Bool, true, false}
 use mathlib.Core.List.{List, [], ◌∷◌}
@@ -13,8 +15,6 @@ use Rattle.ratio.specs.Promise.{rat, Lowest}
 use Rattle.ratio.specs.Refusal.{zero_r}
 use Rattle.ratio.specs.Step.{is_nil, new_of}
 use Rattle.ratio.specs.declared.Ratio.{Ratio}
-use Rattle.ratio.specs.declared.Step.{Step}
-use Rattle.ratio.specs.declared.Step.TheVariants.{Done, Refused}
 use Rattle.ratio.proofs.Steps.{new-done, zero-lowest, some-value}
 use Rattle.terms.specs.Machine.{Ran, fine, over, and_then, whole_r, plain}
 use Rattle.terms.specs.Meaning.{rats}
@@ -86,13 +86,13 @@ module _ (l : List Ratio) (Root : Ratio → Type 0) (sound : (x : Ratio) → IsR
   noted-fine n (over k) c v e = absurd (fine-or-over _ _ v e)
 
   module _ (c c' : Count) (kept kept' : List Ratio) (g : Good Root kept) where
-    at-grows : (p q : ℤ) (s : Step) → new_of p q ≡ s → try_at l s c kept ≡ fine c' kept' → Grows Root kept kept'
-    at-grows p q (Done x) n e =
+    at-grows : (p q : ℤ) (s : Result Ratio Reason) → new_of p q ≡ s → try_at l s c kept ≡ fine c' kept' → Grows Root kept kept'
+    at-grows p q (Ok x) n e =
         let a = both-answered (noted c.tried (valued plain l x (whole_r (pos 1)) zero_r c.steps)) _ c' kept' e in
         let v = noted-fine c.tried (valued plain l x (whole_r (pos 1)) zero_r c.steps) a.log a.got a.first in
         subst (Grows Root kept) (same-list _ _ _ _ a.then)
         (kept-grows (is_nil a.got.num) x kept (new-done p q x n).1 (λ z. sound x (value-root l x a.got c.steps a.log.steps v z)) g)
-    at-grows p q (Refused why) n e = absurd (fine-or-over _ _ kept' e)
+    at-grows p q (Err why) n e = absurd (fine-or-over _ _ kept' e)
 
     one_grows : (p q : ℤ) → try_one l p q c kept ≡ fine c' kept' → Grows Root kept kept'
     unfolding try_one
@@ -102,15 +102,15 @@ module _ (l : List Ratio) (Root : Ratio → Type 0) (sound : (x : Ratio) → IsR
         go true e = subst (Grows Root kept) (same-list _ _ _ _ e) (grows_none g)
         go false e = at-grows p q (new_of p q) refl e
 
-    at-gets : (s : Step) (x : Ratio) → s ≡ Done x → Lowest x → IsRoot (rats l) (rat x) → try_at l s c kept ≡ fine c' kept' → (P : Ratio → Type 0) → P x → Has P kept'
+    at-gets : (s : Result Ratio Reason) (x : Ratio) → s ≡ Ok x → Lowest x → IsRoot (rats l) (rat x) → try_at l s c kept ≡ fine c' kept' → (P : Ratio → Type 0) → P x → Has P kept'
     at-gets s x d f r e P p =
-        let e' : try_at l (Done x) c kept ≡ fine c' kept' = ap (λ s. try_at l s c kept) (sym d) ∙ e in
+        let e' : try_at l (Ok x) c kept ≡ fine c' kept' = ap (λ s. try_at l s c kept) (sym d) ∙ e in
         let a = both-answered (noted c.tried (valued plain l x (whole_r (pos 1)) zero_r c.steps)) _ c' kept' e' in
         let v = noted-fine c.tried (valued plain l x (whole_r (pos 1)) zero_r c.steps) a.log a.got a.first in
         let z : is_nil a.got.num ≡ true = root-value l x a.got c.steps a.log.steps v r in
         subst (Has P) (ap (λ t. kept_if t x kept) (sym z) ∙ same-list _ _ _ _ a.then) ((inserted-placed x kept f g).gets P p)
 
-    one-gets : (p q : ℤ) (x : Ratio) → is_nil q ≡ false → new_of p q ≡ Done x → IsRoot (rats l) (rat x) → try_one l p q c kept ≡ fine c' kept' → (P : Ratio → Type 0) → P x → Has P kept'
+    one-gets : (p q : ℤ) (x : Ratio) → is_nil q ≡ false → new_of p q ≡ Ok x → IsRoot (rats l) (rat x) → try_one l p q c kept ≡ fine c' kept' → (P : Ratio → Type 0) → P x → Has P kept'
     unfolding try_one
     one-gets p q x z d r e = at-gets (new_of p q) x d (new-done p q x d).1 r (ap (λ t. unless_zero t c kept (try_at l (new_of p q) c kept)) (sym z) ∙ e)
 
@@ -132,7 +132,7 @@ module _ (l : List Ratio) (Root : Ratio → Type 0) (sound : (x : Ratio) → IsR
       let f = row-grows p qs c a.log kept a.got g a.first in
       grows-both f (all-grows ps qs a.log c' a.got kept' f.good a.then)
 
-  module _ (p q : ℤ) (x : Ratio) (z : is_nil q ≡ false) (d : new_of p q ≡ Done x) (r : IsRoot (rats l) (rat x)) (P : Ratio → Type 0) (h : P x) where
+  module _ (p q : ℤ) (x : Ratio) (z : is_nil q ≡ false) (d : new_of p q ≡ Ok x) (r : IsRoot (rats l) (rat x)) (P : Ratio → Type 0) (h : P x) where
     row-gets : (qs : List ℤ) → Has (λ y. q ≡ y) qs → (c c' : Count) (kept kept' : List Ratio) → Good Root kept → try_row l p qs c kept ≡ fine c' kept' → Has P kept'
     unfolding try_row
     row-gets [] x4 c c' kept kept' g e = elim x4 [ ]

@@ -1,4 +1,6 @@
 -- A listing within the budget has at most four entries for each number up to the budget.
+use Rattle.ratio.specs.Refusal.{no_refusal}
+use Rattle.std.specs.Prelude.{Ok, Err}
 use mathlib.Core.Path.{◌≡◌, ap}
 use mathlib.Core.Bool.{Bool, true, false}
 use mathlib.Core.List.{◌++◌}
@@ -9,7 +11,6 @@ use lib.Dec.{eqb}
 use lib.IntN.{ℤ, nat_abs}
 use lib.ListN.{length, length-append}
 use Rattle.ratio.specs.Range.{limit}
-use Rattle.ratio.specs.declared.Outcome.TheVariants.{Done, Refused}
 use Rattle.ratio.specs.declared.Reason.{Reason}
 use Rattle.divisors.specs.declared.Listing.{Listing}
 use Rattle.divisors.specs.Listing.{others, entries, is_small, keep, list_from, factors_of}
@@ -49,10 +50,10 @@ factors-few (suc n) b p h = let k = from-few (suc n) b h 65536 1 in omega arith
 
 -- ---- an answered listing is within its budget
 
-module _ (n : ℤ) (budget : ℕ) (d : (listing_of n budget).outcome ≡ Done) where
+module _ (n : ℤ) (budget : ℕ) (d : (listing_of n budget).outcome ≡ no_refusal) where
   not-refused : (why : Reason) → listing_of n budget ≡ refused_by why → ⊥
   unfolding refused_by
-  not-refused why e = let f : (listing_of n budget).outcome ≡ Refused why = ap (λ (l : Listing). l.outcome) e in let z : ◌≡◌ {A = ℕ} 0 1 = cc in omega arith
+  not-refused why e = let f : (listing_of n budget).outcome ≡ Err why = ap (λ (l : Listing). l.outcome) e in let z : ◌≡◌ {A = ℕ} 0 1 = cc in omega arith
 
   pub answered-within : (1 ≤ budget) × (nat_abs n < (budget + 1) * (budget + 1))
   answered-within = by (dec_le (nat_abs n) limit) (ℕ_discrete budget 0) (dec_le budget 65536) (dec_le ((budget + 1) * (budget + 1)) (nat_abs n))

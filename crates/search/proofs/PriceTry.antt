@@ -1,4 +1,6 @@
--- What the search costs: a candidate takes at most three steps for each coefficient, and there are at most as many candidates as pairs of the two listings. Refused runs cost no more.
+-- What the search costs: a candidate takes at most three steps for each coefficient, and there are at most as many candidates as pairs of the two listings. Err runs cost no more.
+use Rattle.ratio.specs.declared.Reason.{Reason}
+use Rattle.std.specs.Prelude.{Result, Ok, Err}
 use mathlib.Core.Bool.{Bool, true, false}
 use mathlib.Core.List.{List, [], ◌∷◌}
 use Prim.Native.Nat.{ℕ, suc, ◌+◌, ◌*◌, ◌≤◌}
@@ -9,8 +11,6 @@ use lib.ListN.{length}
 use Rattle.ratio.specs.Refusal.{zero_r}
 use Rattle.ratio.specs.Step.{is_nil, new_of}
 use Rattle.ratio.specs.declared.Ratio.{Ratio}
-use Rattle.ratio.specs.declared.Step.{Step}
-use Rattle.ratio.specs.declared.Step.TheVariants.{Done, Refused}
 use Rattle.terms.specs.Machine.{Ran, fine, over, and_then, plus, times, counted, step_of, plain, whole_r}
 use Rattle.terms.specs.Work.{valued}
 use Rattle.terms.proofs.StepsCount.{steps_of, Takes, Any, takes-then, takes-at-most, step-takes}
@@ -62,12 +62,12 @@ module _ (l : List Ratio) where
   noted-few c (fine k v) h = record { tried = omega arith; steps = omega arith }
   noted-few c (over k) h = record { tried = omega arith; steps = omega arith }
 
-  at-few : (s : Step) (c : Count) (kept : List Ratio) → Few width 1 c (count_in (try_at l s c kept))
-  at-few (Done x) c kept =
+  at-few : (s : Result Ratio Reason) (c : Count) (kept : List Ratio) → Few width 1 c (count_in (try_at l s c kept))
+  at-few (Ok x) c kept =
       few-then width 1 0 c (noted c.tried (valued plain l x (whole_r (pos 1)) zero_r c.steps)) _
       (noted-few c (valued plain l x (whole_r (pos 1)) zero_r c.steps) (takes-at-most {X = Ratio} Any c.steps width (valued plain l x (whole_r (pos 1)) zero_r c.steps) (valued-takes l x (whole_r (pos 1)) zero_r c.steps)))
       (λ d v. few-none width d)
-  at-few (Refused why) c kept = few-more width 0 1 c c (omega arith) (few-none width c)
+  at-few (Err why) c kept = few-more width 0 1 c c (omega arith) (few-none width c)
 
   unless-few : (t : Bool) (c : Count) (kept : List Ratio) (r : Ran Count (List Ratio)) → Few width 1 c (count_in r) → Few width 1 c (count_in (unless_zero t c kept r))
   unless-few true c kept r h = few-more width 0 1 c c (omega arith) (few-none width c)

@@ -1,13 +1,9 @@
 -- Document 01, module 5, `rational_roots`: clear denominators, strip zero roots, list the divisors of the constant and the leading term, try every quotient, drop repeats, sort. The zero polynomial has an empty list. A refusal hands back an empty list and what was counted.
-use Rattle.std.specs.Prelude.{Bool, true, false, List, [], ◌∷◌, ℕ, ◌-◌, ltb, ℤ, pos, nat_abs, length, drop, get_or, replicate}
-use Rattle.ratio.specs.Refusal.{zero_r}
-use Rattle.ratio.specs.declared.Outcome.{Outcome}
-use Rattle.ratio.specs.declared.Outcome.TheVariants as O
+use Rattle.std.specs.Prelude.{Bool, true, false, List, [], ◌∷◌, ℕ, ◌-◌, ltb, ℤ, pos, nat_abs, length, drop, get_or, replicate, Result, Ok, Err}
+use Rattle.ratio.specs.Refusal.{zero_r, Outcome, no_refusal}
 use Rattle.ratio.specs.declared.Ratio.{Ratio}
 use Rattle.ratio.specs.declared.Reason.{Reason}
 use Rattle.ratio.specs.declared.Reason.TheVariants.{CoeffOverflow}
-use Rattle.ratio.specs.declared.Step.{Step}
-use Rattle.ratio.specs.declared.Step.TheVariants as S
 use Rattle.terms.specs.Machine.{Ran, fine, over, whole_r}
 use Rattle.terms.specs.Poly.{trim}
 use Rattle.divisors.specs.Listing.{factors_of}
@@ -20,12 +16,12 @@ use Rattle.search.specs.Try.{Count, try_all}
 use Rattle.search.specs.Tally.{tally_of}
 
 abbrev pub no_roots : Reason → ℕ → ℕ → Roots
-no_roots why n k = record { outcome = O.Refused why; values = replicate 32 zero_r; len = 0; tried = n; steps = k }
+no_roots why n k = record { outcome = Err why; values = replicate 32 zero_r; len = 0; tried = n; steps = k }
 
 -- the outcome where the work came to its end, or didn't
 abbrev pub outcome_if : Bool → Outcome
-outcome_if true = O.Done
-outcome_if false = O.Refused CoeffOverflow
+outcome_if true = no_refusal
+outcome_if false = Err CoeffOverflow
 
 abbrev pub answer_for : Tally → Roots
 answer_for t = record { outcome = outcome_if t.fine; values = t.values; len = t.len; tried = t.tried; steps = t.steps }
@@ -42,8 +38,8 @@ started true = zero_r ∷ []
 started false = []
 
 abbrev pub when_listed : Outcome → Roots → Roots
-when_listed O.Done r = r
-when_listed (O.Refused why) r = no_roots why 0 0
+when_listed (Ok _) r = r
+when_listed (Err why) r = no_roots why 0 0
 
 -- the divisors of n are listed, where the budget allows it
 abbrev pub listed_then : ℤ → ℕ → (List ℤ → Roots) → Roots
@@ -60,9 +56,9 @@ abbrev pub searched_whole : ℕ → Ran ℕ (List Ratio) → Roots
 searched_whole budget (fine k l) = searched_in (drop (zeros l) l) (ltb 0 (zeros l)) budget
 searched_whole budget (over k) = no_roots CoeffOverflow 0 0
 
-abbrev pub cleared_then : List Ratio → ℕ → Step → Roots
-cleared_then l budget (S.Done m) = searched_whole budget (cleared_by m l)
-cleared_then l budget (S.Refused why) = no_roots CoeffOverflow 0 0
+abbrev pub cleared_then : List Ratio → ℕ → Result Ratio Reason → Roots
+cleared_then l budget (Ok m) = searched_whole budget (cleared_by m l)
+cleared_then l budget (Err why) = no_roots CoeffOverflow 0 0
 
 -- without zeros at the top
 unfoldable pub roots_for : List Ratio → ℕ → Roots

@@ -1,17 +1,18 @@
 -- Document 01, module 5, roots: repeats are dropped and the list is sorted exactly. A root is put into a rising list: the smaller of two stays, the larger is carried on.
-use Rattle.std.specs.Prelude.{Bool, true, false, List, [], ◌∷◌, ltb, length}
+use Rattle.std.specs.Prelude.{Bool, true, false, List, [], ◌∷◌, ltb, length, Result, Ok, Err}
 use Rattle.ratio.specs.Step.{cmp_of}
-use Rattle.ratio.specs.declared.Order.{Order}
-use Rattle.ratio.specs.declared.Order.TheVariants.{Less, Equal, Greater, Unordered}
+use Rattle.std.specs.declared.cmp.Ordering.{Ordering}
+use Rattle.std.specs.declared.cmp.Ordering.TheVariants.{Less, Equal, Greater}
+use Rattle.ratio.specs.declared.Reason.{Reason}
 use Rattle.ratio.specs.declared.Ratio.{Ratio}
 use Rattle.search.specs.declared.Pair.{Pair}
 use Rattle.search.specs.declared.Pair.TheVariants.{Both, Repeat}
 
-abbrev pub turned_by : Order → Ratio → Ratio → Pair
-turned_by Less x a = Both x a
-turned_by Equal x a = Repeat
-turned_by Greater x a = Both a x
-turned_by (Unordered why) x a = Repeat
+abbrev pub turned_by : Result Ordering Reason → Ratio → Ratio → Pair
+turned_by (Ok Less) x a = Both x a
+turned_by (Ok Equal) x a = Repeat
+turned_by (Ok Greater) x a = Both a x
+turned_by (Err why) x a = Repeat
 
 -- the smaller and the larger; or x stands there already
 abbrev pub turned : Ratio → Ratio → Pair

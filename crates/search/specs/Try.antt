@@ -1,10 +1,9 @@
 -- Document 01, module 5, roots: every quotient p / q of two listings is tried, in listing order, and kept where the value is zero. A value that is refused refuses the search with 2.
-use Rattle.std.specs.Prelude.{Bool, true, false, List, [], ◌∷◌, ℕ, ◌+◌, ℤ, pos}
+use Rattle.ratio.specs.declared.Reason.{Reason}
+use Rattle.std.specs.Prelude.{Bool, true, false, List, [], ◌∷◌, ℕ, ◌+◌, ℤ, pos, Result, Ok, Err}
 use Rattle.ratio.specs.Refusal.{zero_r}
 use Rattle.ratio.specs.Step.{is_nil, new_of}
 use Rattle.ratio.specs.declared.Ratio.{Ratio}
-use Rattle.ratio.specs.declared.Step.{Step}
-use Rattle.ratio.specs.declared.Step.TheVariants.{Done, Refused}
 use Rattle.terms.specs.Machine.{Ran, fine, over, and_then, whole_r, plain}
 use Rattle.terms.specs.Work.{valued}
 use Rattle.search.specs.Keep.{inserted}
@@ -27,9 +26,9 @@ abbrev pub kept_if : Bool → Ratio → List Ratio → List Ratio
 kept_if true x kept = inserted x kept
 kept_if false x kept = kept
 
-abbrev pub try_at : List Ratio → Step → Count → List Ratio → Ran Count (List Ratio)
-try_at l (Done x) c kept = and_then (value_at l x c) (λ c v. fine c (kept_if (is_nil v.num) x kept))
-try_at l (Refused why) c kept = over c
+abbrev pub try_at : List Ratio → Result Ratio Reason → Count → List Ratio → Ran Count (List Ratio)
+try_at l (Ok x) c kept = and_then (value_at l x c) (λ c v. fine c (kept_if (is_nil v.num) x kept))
+try_at l (Err why) c kept = over c
 
 abbrev pub unless_zero : Bool → Count → List Ratio → Ran Count (List Ratio) → Ran Count (List Ratio)
 unless_zero true c kept r = fine c kept

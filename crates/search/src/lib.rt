@@ -18,13 +18,14 @@ ghost use Rattle.search.specs.Tally.{count_of, kept_list, Tallied, tally_of, hal
 ghost use Rattle.search.specs.Answer.{no_roots, answer_for, started, searched_below, searched_in, roots_of};
 
 use divisors::{Found, Listing};
-use ratio::{Order, Outcome, Ratio, Reason, Step};
+use ratio::{Ratio, Reason};
+use std::cmp::Ordering;
 use terms::Poly;
 
 // The roots found, rising; how many candidates were tried, and the rational steps that took.
 #[derive(Clone, Copy)]
 pub struct Roots {
-    pub outcome: Outcome,
+    pub outcome: Result<(), Reason>,
     pub values: [Ratio; 32],
     pub len: usize,
     pub tried: u64,
@@ -46,18 +47,18 @@ fn share(n: i64, d: u64) -> Ratio
 }
 
 // The common multiple of m and d.
-pub fn widen(m: Ratio, d: i64) -> Step
+pub fn widen(m: Ratio, d: i64) -> Result<Ratio, Reason>
     ensures is { result ≡ widened m d }
 {
     if d <= 0 {
-        return Step::Refused(Reason::CoeffOverflow);
+        return Err(Reason::CoeffOverflow);
     }
     let g = ratio::gcd_i64(m.num, d);
     ratio::checked_mul(m, share(d, g))
 }
 
 // The common multiple of the denominators.
-fn multiple(p: Poly) -> Step
+fn multiple(p: Poly) -> Result<Ratio, Reason>
     ensures { result ≡ multiple_from (terms_of p) (whole_r (pos 1)) }
 {
     let n = p.length();
@@ -65,23 +66,23 @@ fn multiple(p: Poly) -> Step
     let mut i: usize = 0;
     while i < n {
         let c = p.coeffs[i];
-        let Step::Done(next) = widen(m, c.den) else {
-            return Step::Refused(Reason::CoeffOverflow);
+        let Ok(next) = widen(m, c.den) else {
+            return Err(Reason::CoeffOverflow);
         };
         m = next;
         i += 1;
     }
-    Step::Done(m)
+    Ok(m)
 }
 
 // The coefficient c times m, a multiple of its denominator.
-fn clear_one(m: Ratio, c: Ratio) -> Step
+fn clear_one(m: Ratio, c: Ratio) -> Result<Ratio, Reason>
     requires { Within m.num }
     ensures { result ≡ cleared_one m c }
 {
     let d = c.den;
     if d <= 0 {
-        return Step::Refused(Reason::CoeffOverflow);
+        return Err(Reason::CoeffOverflow);
     }
     ratio::checked_mul(Ratio { num: c.num, den: 1 }, share(m.num, d as u64))
 }
@@ -102,7 +103,7 @@ fn clear(p: Poly, m: Ratio) -> Cleared
     let mut i: usize = 0;
     while i < n {
         let c = p.coeffs[i];
-        let Step::Done(y) = clear_one(m, c) else {
+        let Ok(y) = clear_one(m, c) else {
             return Cleared {
                 fine: false,
                 poly: Poly::zero(),
@@ -166,10 +167,10 @@ fn turn(x: Ratio, a: Ratio) -> Pair
     ensures { result ≡ turned x a }
 {
     match ratio::compare(x, a) {
-        Order::Less => Pair::Both { low: x, high: a },
-        Order::Equal => Pair::Repeat,
-        Order::Greater => Pair::Both { low: a, high: x },
-        Order::Unordered(_) => Pair::Repeat,
+        Ok(Ordering::Less) => Pair::Both { low: x, high: a },
+        Ok(Ordering::Equal) => Pair::Repeat,
+        Ok(Ordering::Greater) => Pair::Both { low: a, high: x },
+        Err(_) => Pair::Repeat,
     }
 }
 
@@ -252,13 +253,13 @@ fn evaluate(p: Poly, x: Ratio, steps: u64) -> Valued
     let mut i: usize = 0;
     while i < n {
         let c = p.coeffs[i];
-        let Step::Done(t) = ratio::checked_mul(c, power) else {
+        let Ok(t) = ratio::checked_mul(c, power) else {
             return over(count + 1);
         };
-        let Step::Done(s) = ratio::checked_add(sum, t) else {
+        let Ok(s) = ratio::checked_add(sum, t) else {
             return over(count + 2);
         };
-        let Step::Done(next) = ratio::checked_mul(power, x) else {
+        let Ok(next) = ratio::checked_mul(power, x) else {
             return over(count + 3);
         };
         sum = s;
@@ -310,7 +311,7 @@ fn try_one(p: Poly, n: i64, d: i64, t: Tally) -> Tally
     if d == 0 {
         return t;
     }
-    let Step::Done(x) = Ratio::new(n, d) else {
+    let Ok(x) = Ratio::new(n, d) else {
         return halted(t.tried, t.steps);
     };
     let v = evaluate(p, x, t.steps);
@@ -375,7 +376,7 @@ pub fn no_roots(why: Reason) -> Roots
     ensures is { result ≡ no_roots why 0 0 }
 {
     Roots {
-        outcome: Outcome::Refused(why),
+        outcome: Err(why),
         values: [Ratio { num: 0, den: 1 }; 32],
         len: 0,
         tried: 0,
@@ -390,7 +391,7 @@ fn answer(t: Tally) -> Roots
     let values = t.values;
     if t.fine {
         Roots {
-            outcome: Outcome::Done,
+            outcome: Ok(()),
             values,
             len: t.len,
             tried: t.tried,
@@ -398,7 +399,7 @@ fn answer(t: Tally) -> Roots
         }
     } else {
         Roots {
-            outcome: Outcome::Refused(Reason::CoeffOverflow),
+            outcome: Err(Reason::CoeffOverflow),
             values,
             len: t.len,
             tried: t.tried,
@@ -440,12 +441,12 @@ fn search_below(p: Poly, zero: bool, budget: u64, first: Listing) -> Roots
     let second = divisors::integer_factors(lead.num, budget);
     let outcome = second.outcome;
     match outcome {
-        Outcome::Done => {
+        Ok(()) => {
             let above = first.marks;
             let below = second.marks;
             answer(try_all(p, first.size, &above, second.size, &below, start(zero)))
         }
-        Outcome::Refused(why) => no_roots(why),
+        Err(why) => no_roots(why),
     }
 }
 
@@ -457,8 +458,8 @@ fn search_in(p: Poly, zero: bool, budget: u64) -> Roots
     let first = divisors::integer_factors(constant.num, budget);
     let outcome = first.outcome;
     match outcome {
-        Outcome::Done => search_below(p, zero, budget, first),
-        Outcome::Refused(why) => no_roots(why),
+        Ok(()) => search_below(p, zero, budget, first),
+        Err(why) => no_roots(why),
     }
 }
 
@@ -477,7 +478,7 @@ pub fn roots_of(p: Poly, budget: u64) -> Roots
     if f.length() == 0 {
         return answer(start(false));
     }
-    let Step::Done(m) = multiple(f) else {
+    let Ok(m) = multiple(f) else {
         return no_roots(Reason::CoeffOverflow);
     };
     let c = clear(f, m);

@@ -1,4 +1,5 @@
 -- Laws of Kronecker's method: what the code's pair says of the model's halves.
+use Rattle.std.specs.Prelude.{Ok, Err}
 use mathlib.Core.Path.{◌≡◌, refl, sym, ap, ◌∙◌}
 use mathlib.Core.Bool.{true, false}
 use mathlib.Core.List.{List, [], ◌∷◌}
@@ -6,8 +7,7 @@ use Prim.Native.Nat.{ℕ, ◌<◌, ◌≤◌}
 use native.Mathlib.Omega.{arith}
 use borrow.Author.Tests.{lt-ltb, le-ltb}
 use lib.ListN.{length}
-use Rattle.ratio.specs.declared.Outcome.{Outcome}
-use Rattle.ratio.specs.declared.Outcome.TheVariants as O
+use Rattle.ratio.specs.Refusal.{Outcome, no_refusal}
 use Rattle.ratio.specs.declared.Ratio.{Ratio}
 use Rattle.ratio.specs.declared.Reason.{Reason}
 use Rattle.terms.specs.Poly.{terms_of}
@@ -22,14 +22,14 @@ use Rattle.splitting.specs.declared.Pair.{Pair}
 use Rattle.splitting.specs.Pair.{Halves, whole, both, halves_if, paired_by, on_verdict, pair_of, halves_of, pair_in, pair_from}
 
 -- no pair
-pub pair-none : (p : Pair) → p.outcome ≡ O.Done → p.two ≡ false → pair_from p ≡ got whole
+pub pair-none : (p : Pair) → p.outcome ≡ no_refusal → p.two ≡ false → pair_from p ≡ got whole
 pair-none p e t = rw (e, t)
 
-pub pair-over : (p : Pair) (why : Reason) → p.outcome ≡ O.Refused why → pair_from p ≡ none why
+pub pair-over : (p : Pair) (why : Reason) → p.outcome ≡ Err why → pair_from p ≡ none why
 pair-over p why e = rw e
 
 module _ (f g : List Ratio) (d : Division) (e : d ≡ divided_of f g) where
-  pub paired-refused : (why : Reason) → d.outcome ≡ O.Refused why → none why ≡ paired_by f g
+  pub paired-refused : (why : Reason) → d.outcome ≡ Err why → none why ≡ paired_by f g
   unfolding paired_by
   paired-refused why o = rw (parts_none d f g why e o)
 
@@ -41,7 +41,7 @@ module _ (f g : List Ratio) (d : Division) (e : d ≡ divided_of f g) where
   rest_both [] q h = refl
   rest_both (x ∷ l) q h = absurd (omega arith)
 
-  module _ (o : d.outcome ≡ O.Done) where
+  module _ (o : d.outcome ≡ no_refusal) where
     pub paired-rest : 0 < length (terms_of d.rest) → got whole ≡ paired_by f g
     unfolding paired_by
     paired-rest h = rw (parts-got d f g e o, rest-whole (terms_of d.rest) (terms_of d.quotient) h)
@@ -69,11 +69,11 @@ module _ (f : List Ratio) (budget : ℕ) where
   pair-tried h k s e v o = rw (le-ltb (length f) 4 h, le-ltb 7 (length f) k, ← e, o)
 
 -- what a pair in memory says
-pub pair-is-none : (p : Pair) (g : Got Halves) (why : Reason) → pair_from p ≡ g → p.outcome ≡ O.Refused why → g ≡ none why
+pub pair-is-none : (p : Pair) (g : Got Halves) (why : Reason) → pair_from p ≡ g → p.outcome ≡ Err why → g ≡ none why
 pair-is-none p g why e o = sym e ∙ ap (λ (t : Outcome). pair_in t (halves_of p.two (terms_of p.factor) (terms_of p.quotient))) o
 
-pub pair-is-whole : (p : Pair) (g : Got Halves) → pair_from p ≡ g → p.outcome ≡ O.Done → p.two ≡ false → g ≡ got whole
+pub pair-is-whole : (p : Pair) (g : Got Halves) → pair_from p ≡ g → p.outcome ≡ no_refusal → p.two ≡ false → g ≡ got whole
 pair-is-whole p g e o t = sym e ∙ (rw (o, t) refl)
 
-pub pair-is-both : (p : Pair) (g : Got Halves) → pair_from p ≡ g → p.outcome ≡ O.Done → p.two ≡ true → g ≡ got (both (terms_of p.factor) (terms_of p.quotient))
+pub pair-is-both : (p : Pair) (g : Got Halves) → pair_from p ≡ g → p.outcome ≡ no_refusal → p.two ≡ true → g ≡ got (both (terms_of p.factor) (terms_of p.quotient))
 pair-is-both p g e o t = sym e ∙ (rw (o, t) refl)

@@ -1,4 +1,6 @@
 -- Dividing out a root: what was found times what is left stays the same, and what is left may be split still.
+use Rattle.ratio.specs.declared.Reason.{Reason}
+use Rattle.std.specs.Prelude.{Result, Ok, Err}
 use mathlib.Core.Path.{◌≡◌, refl, sym, ap, subst, ◌∙◌}
 use mathlib.Core.List.{List, [], ◌∷◌}
 use Prim.Native.Nat.{ℕ, zero, suc, ◌+◌, ◌-◌, ◌≤◌}
@@ -19,8 +21,6 @@ use Rattle.algebra.proofs.Lists.{ℚP, ◌*P◌, x_minus, poly-x_minus, equal-po
 use Rattle.ratio.specs.Promise.{rat}
 use Rattle.ratio.specs.Step.{neg_of}
 use Rattle.ratio.specs.declared.Ratio.{Ratio}
-use Rattle.ratio.specs.declared.Step.{Step}
-use Rattle.ratio.specs.declared.Step.TheVariants.{Done, Refused}
 use Rattle.ratio.proofs.Steps.{value, neg-done}
 use Rattle.terms.specs.Machine.{whole_r, Ran, fine, over, plain}
 use Rattle.terms.specs.Meaning.{rats}
@@ -59,7 +59,7 @@ parts_whole a (y ∷ b) q ca cb e =
 
 -- ---- x less r
 
-module _ (r n : Ratio) (e : neg_of r ≡ Done n) where
+module _ (r n : Ratio) (e : neg_of r ≡ Ok n) where
   line-equal : Equal (rats (line n)) (x_minus (rat r))
   unfolding coeff
   line-equal zero = (neg-done r n e).0
@@ -99,7 +99,7 @@ module _ (times : ℕ) where
   regroup : (a x q : ℚP) → (a *P x) *P q ≡ a *P (q *P x)
   regroup a x q = ring! (Poly-ring ℚ-ring) (a ∷ x ∷ q ∷ []) (search reify depth 30 fits 20000) tt
 
-  module _ (found : List Piece) (f : List Ratio) (r : Ready found f) (root n : Ratio) (e : neg_of root ≡ Done n) where
+  module _ (found : List Piece) (f : List Ratio) (r : Ready found f) (root n : Ratio) (e : neg_of root ≡ Ok n) where
     module _ (q : List Ratio) (p : parts_of f (line n) ≡ got (split q [])) where
       exact : Whole f (line n) q
       exact = parts_whole f (line n) q r.canonical (line-canonical root n e) p
@@ -142,9 +142,9 @@ module _ (times : ℕ) where
     parts-peel (got s) p l h = let z : peel_if s.rest times (line n) s.quotient (start found f) ≡ l = cc in subst (Peels found f) z (rest-peels s p s.rest refl)
     parts-peel (none why) p l h = absurd (let z : ◌≡◌ {A = ℕ} 0 1 = cc in omega arith)
 
-  line-peels : (found : List Piece) (f : List Ratio) → Ready found f → (root : Ratio) (s : Step) → neg_of root ≡ s → (l : Peel) → then_got (line_from s) (λ x. then_got (parts_of f x) (λ s. got (peel_if s.rest times x s.quotient (start found f)))) ≡ got l → Peels found f l
-  line-peels found f r root (Done n) e l h = parts-peel found f r root n e (parts_of f (line n)) refl l h
-  line-peels found f r root (Refused why) e l h = absurd (let z : ◌≡◌ {A = ℕ} 0 1 = cc in omega arith)
+  line-peels : (found : List Piece) (f : List Ratio) → Ready found f → (root : Ratio) (s : Result Ratio Reason) → neg_of root ≡ s → (l : Peel) → then_got (line_from s) (λ x. then_got (parts_of f x) (λ s. got (peel_if s.rest times x s.quotient (start found f)))) ≡ got l → Peels found f l
+  line-peels found f r root (Ok n) e l h = parts-peel found f r root n e (parts_of f (line n)) refl l h
+  line-peels found f r root (Err why) e l h = absurd (let z : ◌≡◌ {A = ℕ} 0 1 = cc in omega arith)
 
   one-peels : (found : List Piece) (f : List Ratio) → Ready found f → (root : Ratio) (l : Peel) → peel_one times root (start found f) ≡ got l → Peels found f l
   unfolding peel_one

@@ -1,4 +1,5 @@
 -- Splitting: the powers of the factors multiply to what was to be split, and every factor has degree at least 1.
+use Rattle.std.specs.Prelude.{Ok, Err}
 use mathlib.Core.Path.{◌≡◌, refl, sym, ap, subst, ◌∙◌}
 use mathlib.Core.Bool.{Bool, true, false, cond}
 use mathlib.Core.List.{List, [], ◌∷◌}
@@ -13,8 +14,7 @@ use Rattle.algebra.proofs.Rational.{ℚ-ring}
 use Rattle.algebra.proofs.Poly.{Poly-ring}
 use Rattle.algebra.proofs.Lists.{ℚP, ◌*P◌}
 use Rattle.algebra.proofs.ListWords.{root-from}
-use Rattle.ratio.specs.declared.Outcome.{Outcome}
-use Rattle.ratio.specs.declared.Outcome.TheVariants as O
+use Rattle.ratio.specs.Refusal.{Outcome, no_refusal}
 use Rattle.ratio.specs.declared.Ratio.{Ratio}
 use Rattle.terms.specs.Meaning.{rats}
 use Rattle.terms.proofs.Meaning.{poly_r}
@@ -40,7 +40,7 @@ none_has {P = P} [] e x'' = elim x'' [ ]
 none_has (a ∷ l) e (here p) = omega arith
 none_has (a ∷ l) e (there h) = omega arith
 
-no-roots : (f : List Ratio) (budget : ℕ) → Canonical f → 1 ≤ length f → length f ≤ 32 → (roots_of f budget).outcome ≡ O.Done → (roots_of f budget).len ≤ 0 → NoRoot (poly_r f)
+no-roots : (f : List Ratio) (budget : ℕ) → Canonical f → 1 ≤ length f → length f ≤ 32 → (roots_of f budget).outcome ≡ no_refusal → (roots_of f budget).len ≤ 0 → NoRoot (poly_r f)
 unfolding NoRoot
 no-roots f budget c s h o z x e =
     let r = roots-found f budget h (omega (arith, ap length c.trimmed)) o in
@@ -161,7 +161,7 @@ module _ (times budget : ℕ) where
     pair-meant h n (got w) p = halves-meant h n w p
     pair-meant h n (none why) p = λ l e. absurd (let z : ◌≡◌ {A = ℕ} 0 1 = cc in omega arith)
 
-    roots-meant : 3 ≤ length f → (roots_of f budget).outcome ≡ O.Done → (b : Bool) → ltb 0 (roots_of f budget).len ≡ b
+    roots-meant : 3 ≤ length f → (roots_of f budget).outcome ≡ no_refusal → (b : Bool) → ltb 0 (roots_of f budget).len ≡ b
         → Meant found f (cond b peel_work pair_work)
     roots-meant h o true t = peel-meant h (peeled times (roots_in (roots_of f budget)) (start found f)) refl
     roots-meant h o false t = pair-meant h (no-roots f budget r.canonical r.some r.short o (ltb-false 0 (roots_of f budget).len t)) (pair_of f budget) refl
@@ -169,8 +169,8 @@ module _ (times budget : ℕ) where
     outcome-meant : 3 ≤ length f → (o : Outcome) → (roots_of f budget).outcome ≡ o
         → Meant found f (on_roots o root_work)
     unfolding Meant
-    outcome-meant h O.Done e = roots-meant h e (ltb 0 (roots_of f budget).len) refl
-    outcome-meant h (O.Refused why) e = λ l z. absurd (let z : ◌≡◌ {A = ℕ} 0 1 = cc in omega arith)
+    outcome-meant h (Ok _) e = roots-meant h e (ltb 0 (roots_of f budget).len) refl
+    outcome-meant h (Err why) e = λ l z. absurd (let z : ◌≡◌ {A = ℕ} 0 1 = cc in omega arith)
 
     longer : 2 ≤ length f → (length f ≡ 2 → ⊥) → 3 ≤ length f
     longer h n = omega arith

@@ -1,4 +1,5 @@
 -- Laws of splitting, one for each way that it goes on or ends.
+use Rattle.std.specs.Prelude.{Ok, Err}
 use mathlib.Core.Path.{◌≡◌, refl, sym, ap, subst, ◌∙◌}
 use mathlib.Core.Bool.{true, false}
 use mathlib.Core.List.{List, []}
@@ -9,8 +10,7 @@ use borrow.Author.Tests.{lt-ltb, le-ltb, eq-eqb, ne_eqb}
 use native.Mathlib.Numerals.{add-one}
 use lib.ListN.{length, drop, get_or, set, drop_of_length-le}
 use lib.Seq.{drop-cons}
-use Rattle.ratio.specs.declared.Outcome.{Outcome}
-use Rattle.ratio.specs.declared.Outcome.TheVariants as O
+use Rattle.ratio.specs.Refusal.{Outcome, no_refusal}
 use Rattle.ratio.specs.declared.Ratio.{Ratio}
 use Rattle.ratio.specs.declared.Reason.{Reason}
 use Rattle.terms.specs.declared.Poly.{Poly}
@@ -42,11 +42,11 @@ module _ (f : List Ratio) (times budget : ℕ) (found : List Piece) where
   onto-line k l h = rw (le-ltb (length f) 2 (omega arith), eq-eqb (length f) 2 h)
 
   module _ (k : ℕ) (s : 3 ≤ length f) (r : Roots) (e : r ≡ roots_of f budget) where
-    pub onto-refused : (why : Reason) → r.outcome ≡ O.Refused why → none why ≡ split_onto (suc k) f times budget found
+    pub onto-refused : (why : Reason) → r.outcome ≡ Err why → none why ≡ split_onto (suc k) f times budget found
     unfolding split_onto
     onto-refused why o = rw (le-ltb (length f) 2 (omega arith), ne_eqb (length f) 2 (λ h. omega arith), ← e, o)
 
-    module _ (o : r.outcome ≡ O.Done) where
+    module _ (o : r.outcome ≡ no_refusal) where
       module _ (p : 0 < r.len) where
         pub onto-stopped : (why : Reason) → peeled times (roots_in r) (start found f) ≡ none why → none why ≡ split_onto (suc k) f times budget found
         unfolding split_onto
@@ -102,20 +102,20 @@ module _ (f : List Ratio) (times budget : ℕ) (d : Decomposition) (kept : Kept 
           subst (Splits f times budget (pieces_of d)) (kept.is ∙ sym (e ∙ ap found_all (unless-none f times (pieces_of d) c))) (splits-none c)
 
   module _ (s : 3 ≤ length f) (r : Roots) (e : r ≡ roots_of f budget) where
-    pub splits-refused : (why : Reason) → r.outcome ≡ O.Refused why → (x : Decomposition) → x ≡ refused_for why → Splits f times budget (pieces_of d) x
+    pub splits-refused : (why : Reason) → r.outcome ≡ Err why → (x : Decomposition) → x ≡ refused_for why → Splits f times budget (pieces_of d) x
     splits-refused why o x p = record { is = each x (omega arith) (λ m l. p ∙ ap decomposition_of (onto-refused f times budget (pieces_of d) m s r e why o)) }
 
-    module _ (o : r.outcome ≡ O.Done) where
+    module _ (o : r.outcome ≡ no_refusal) where
       module _ (p : 0 < r.len) (l : Left) (q : l ≡ left_of (peeled times (roots_in r) (start (pieces_of d) f))) where
-        splits-stopped : (why : Reason) → l.found.outcome ≡ O.Refused why → Splits f times budget (pieces_of d) l.found
+        splits-stopped : (why : Reason) → l.found.outcome ≡ Err why → Splits f times budget (pieces_of d) l.found
         splits-stopped why u =
             let v = peeled-none l (peeled times (roots_in r) (start (pieces_of d) f)) why q u in
             record { is = each l.found (omega arith) (λ m h. ap (λ (x : Left). x.found) (q ∙ ap left_of v) ∙ ap decomposition_of (onto-stopped f times budget (pieces_of d) m s r e o p why v)) }
 
-        pub peel-done : 2 ≤ length (terms_of l.rest) → l.found.outcome ≡ O.Done
+        pub peel-done : 2 ≤ length (terms_of l.rest) → l.found.outcome ≡ no_refusal
         peel-done h = left-done l (peeled times (roots_in r) (start (pieces_of d) f)) q (omega arith)
 
-        module _ (u : l.found.outcome ≡ O.Done) where
+        module _ (u : l.found.outcome ≡ no_refusal) where
           peel-told : Peeled (peeled times (roots_in r) (start (pieces_of d) f)) l.found l.rest
           peel-told = peeled-done l (peeled times (roots_in r) (start (pieces_of d) f)) q u
 
@@ -136,14 +136,14 @@ module _ (f : List Ratio) (times budget : ℕ) (d : Decomposition) (kept : Kept 
         splits-few h = go l.found.outcome refl
           where
             go : (o : Outcome) → l.found.outcome ≡ o → Splits f times budget (pieces_of d) l.found
-            go O.Done u = splits-rest u (omega arith) l.found (record { is = λ k n. (peel-kept-list u).is ∙ ap decomposition_of (onto-none (terms_of l.rest) times budget (pieces_of l.found) k h) })
-            go (O.Refused why) u = splits-stopped why u
+            go (Ok _) u = splits-rest u (omega arith) l.found (record { is = λ k n. (peel-kept-list u).is ∙ ap decomposition_of (onto-none (terms_of l.rest) times budget (pieces_of l.found) k h) })
+            go (Err why) u = splits-stopped why u
 
       module _ (p : r.len ≤ 0) (h : Pair) (q : pair_from h ≡ pair_of f budget) where
-        pub splits-pairless : (why : Reason) → h.outcome ≡ O.Refused why → (x : Decomposition) → x ≡ refused_for why → Splits f times budget (pieces_of d) x
+        pub splits-pairless : (why : Reason) → h.outcome ≡ Err why → (x : Decomposition) → x ≡ refused_for why → Splits f times budget (pieces_of d) x
         splits-pairless why u x w = record { is = each x (omega arith) (λ m l. w ∙ ap decomposition_of (onto-pairless f times budget (pieces_of d) m s r e o p why (pair-is-none h (pair_of f budget) why q u))) }
 
-        module _ (u : h.outcome ≡ O.Done) where
+        module _ (u : h.outcome ≡ no_refusal) where
           pub splits-whole : h.two ≡ false → (x : Decomposition) → x ≡ found_all (added_unless f times (pieces_of d)) → Splits f times budget (pieces_of d) x
           splits-whole t x w = record { is = each x (omega arith) (λ m l. w ∙ ap found_all (unless-some f times (pieces_of d) (omega arith)) ∙ ap decomposition_of (onto-whole f times budget (pieces_of d) m s r e o p (pair-is-whole h (pair_of f budget) q u t))) }
 
@@ -158,7 +158,7 @@ module _ (f : List Ratio) (times budget : ℕ) (d : Decomposition) (kept : Kept 
             second-shorter = quotient-shorter f budget (terms_of h.factor) (terms_of h.quotient) two-told (omega arith)
 
             module _ (a : Decomposition) (w : Splits (terms_of h.factor) times budget (pieces_of d) a) where
-              pub splits-half : (why : Reason) → a.outcome ≡ O.Refused why → Splits f times budget (pieces_of d) a
+              pub splits-half : (why : Reason) → a.outcome ≡ Err why → Splits f times budget (pieces_of d) a
               splits-half why v =
                   record {
                     is =
@@ -168,10 +168,10 @@ module _ (f : List Ratio) (times budget : ℕ) (d : Decomposition) (kept : Kept 
                         i ∙ ap decomposition_of (n ∙ onto-half f times budget (pieces_of d) m s r e o p (terms_of h.factor) (terms_of h.quotient) two-told why n));
                   }
 
-              pub half-kept : a.outcome ≡ O.Done → Kept a
+              pub half-kept : a.outcome ≡ no_refusal → Kept a
               half-kept v = list-kept a (split_onto (length f) (terms_of h.factor) times budget (pieces_of d)) (w.is (length f) (omega (arith, first-shorter))) v
 
-              pub splits-both : a.outcome ≡ O.Done → (x : Decomposition) → Splits (terms_of h.quotient) times budget (pieces_of a) x → Splits f times budget (pieces_of d) x
+              pub splits-both : a.outcome ≡ no_refusal → (x : Decomposition) → Splits (terms_of h.quotient) times budget (pieces_of a) x → Splits f times budget (pieces_of d) x
               splits-both v x y =
                   record {
                     is =
@@ -202,13 +202,13 @@ module _ (all : List Piece) (budget : ℕ) where
         ∙ ap (λ (t : List Ratio). decomposition_of (split_onto (length t) t y.times budget (pieces_of d))) e
         ∙ ap (λ (y : Piece). decomposition_of (split_onto (length (trim (terms_of y.poly))) (trim (terms_of y.poly)) y.times budget (pieces_of d))) g
 
-    pub splitting-more : x.outcome ≡ O.Done → Splitting (i + 1) x
+    pub splitting-more : x.outcome ≡ no_refusal → Splitting (i + 1) x
     unfolding split_all work
     splitting-more o =
         let n = list-got x work same o in
         record { whole = rw (add-one i) (rw (drop-cons all i z h, n) at p.whole); kept = list-kept x work same o }
 
-    pub splitting-over : (why : Reason) → x.outcome ≡ O.Refused why → x ≡ decomposition_of (split_all all budget [])
+    pub splitting-over : (why : Reason) → x.outcome ≡ Err why → x ≡ decomposition_of (split_all all budget [])
     unfolding split_all work
     splitting-over why o =
         let n = list-none x work why same o in

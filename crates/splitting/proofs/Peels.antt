@@ -1,4 +1,6 @@
 -- Laws of dividing out linear factors: one root, and a loop over the roots.
+use Rattle.ratio.specs.Refusal.{no_refusal}
+use Rattle.std.specs.Prelude.{Result, Ok, Err}
 use mathlib.Core.Path.{◌≡◌, refl, sym, ap, ap₂, subst, ◌∙◌}
 use mathlib.Core.Bool.{true, false}
 use mathlib.Core.List.{List, [], ◌∷◌}
@@ -8,11 +10,8 @@ use native.Mathlib.Omega.{arith}
 use lib.ListN.{length, drop, get_or, set, drop_of_length-le}
 use lib.Seq.{drop-cons}
 use Rattle.ratio.specs.Step.{neg_of}
-use Rattle.ratio.specs.declared.Outcome.TheVariants as O
 use Rattle.ratio.specs.declared.Ratio.{Ratio}
 use Rattle.ratio.specs.declared.Reason.{Reason}
-use Rattle.ratio.specs.declared.Step.{Step}
-use Rattle.ratio.specs.declared.Step.TheVariants.{Done, Refused}
 use Rattle.terms.specs.declared.Answer.{Answer}
 use Rattle.terms.specs.declared.Poly.{Poly}
 use Rattle.terms.specs.Poly.{terms_of, poly_of}
@@ -35,17 +34,17 @@ use Rattle.splitting.proofs.Places.{kept, added_full, add_done}
 
 -- ---- x less r
 
-line-got : (a : Answer) (s : Step) → a ≡ line_answer_of s → a.outcome ≡ O.Done → line_from s ≡ got (terms_of a.poly)
-line-got a (Done n) e o = ap got (sym (terms-of-poly (line n)) ∙ sym (ap (λ (x : Answer). terms_of x.poly) e))
-line-got a (Refused why) e o = done_refused a.outcome _ o (ap (λ (x : Answer). x.outcome) e)
+line-got : (a : Answer) (s : Result Ratio Reason) → a ≡ line_answer_of s → a.outcome ≡ no_refusal → line_from s ≡ got (terms_of a.poly)
+line-got a (Ok n) e o = ap got (sym (terms-of-poly (line n)) ∙ sym (ap (λ (x : Answer). terms_of x.poly) e))
+line-got a (Err why) e o = done_refused a.outcome _ o (ap (λ (x : Answer). x.outcome) e)
 
-line-none : (a : Answer) (s : Step) (why : Reason) → a ≡ line_answer_of s → a.outcome ≡ O.Refused why → line_from s ≡ none why
-line-none a (Done n) why e o = done_refused a.outcome why (ap (λ (x : Answer). x.outcome) e) o
-line-none a (Refused w) why e o = cc
+line-none : (a : Answer) (s : Result Ratio Reason) (why : Reason) → a ≡ line_answer_of s → a.outcome ≡ Err why → line_from s ≡ none why
+line-none a (Ok n) why e o = done_refused a.outcome why (ap (λ (x : Answer). x.outcome) e) o
+line-none a (Err w) why e o = cc
 
-line-padded : (a : Answer) (s : Step) → a ≡ line_answer_of s → Padded a.poly
-line-padded a (Done n) e = record { is = rw e (ap poly_of (sym (terms-of-poly (line n)))) }
-line-padded a (Refused w) e = record { is = rw e refl }
+line-padded : (a : Answer) (s : Result Ratio Reason) → a ≡ line_answer_of s → Padded a.poly
+line-padded a (Ok n) e = record { is = rw e (ap poly_of (sym (terms-of-poly (line n)))) }
+line-padded a (Err w) e = record { is = rw e refl }
 
 pub line-poly : (a : Answer) (r : Ratio) → a ≡ line_answer r → Padded a.poly
 line-poly a r e = line-padded a (neg_of r) e
@@ -53,13 +52,13 @@ line-poly a r e = line-padded a (neg_of r) e
 -- ---- one root
 
 module _ (r : Ratio) (f : List Ratio) (a : Answer) (e : a ≡ line_answer r) where
-  module _ (p : Pair) (w : PaddedPair p) (why : Reason) (s : p.outcome ≡ O.Refused why) where
-    pub peel-lineless : a.outcome ≡ O.Refused why → PeelsOff r f p
+  module _ (p : Pair) (w : PaddedPair p) (why : Reason) (s : p.outcome ≡ Err why) where
+    pub peel-lineless : a.outcome ≡ Err why → PeelsOff r f p
     unfolding peel_one
     peel-lineless o = record { is = λ times found. rw (s, line-none a (neg_of r) why e o); padded = w }
 
-  module _ (o : a.outcome ≡ O.Done) (d : Division) (h : d ≡ divided_of f (terms_of a.poly)) where
-    pub peel-refused : (p : Pair) → PaddedPair p → (why : Reason) → p.outcome ≡ O.Refused why → d.outcome ≡ O.Refused why → PeelsOff r f p
+  module _ (o : a.outcome ≡ no_refusal) (d : Division) (h : d ≡ divided_of f (terms_of a.poly)) where
+    pub peel-refused : (p : Pair) → PaddedPair p → (why : Reason) → p.outcome ≡ Err why → d.outcome ≡ Err why → PeelsOff r f p
     unfolding peel_one
     peel-refused p w why s u = record { is = λ times found. rw (s, line-got a (neg_of r) e o, parts_none d f (terms_of a.poly) why h u); padded = w }
 
@@ -71,15 +70,15 @@ module _ (r : Ratio) (f : List Ratio) (a : Answer) (e : a ≡ line_answer r) whe
     rest-none times found [] q x s = refl
     rest-none times found (y ∷ l) q x s = absurd (omega arith)
 
-    module _ (u : d.outcome ≡ O.Done) where
-      pub peel-kept : (p : Pair) → PaddedPair p → p.outcome ≡ O.Done → p.two ≡ false → 0 < length (terms_of d.rest) → PeelsOff r f p
+    module _ (u : d.outcome ≡ no_refusal) where
+      pub peel-kept : (p : Pair) → PaddedPair p → p.outcome ≡ no_refusal → p.two ≡ false → 0 < length (terms_of d.rest) → PeelsOff r f p
       unfolding peel_one
       peel-kept p w s t z = record {
         is = λ times found. rw (s, t, line-got a (neg_of r) e o, parts-got d f (terms_of a.poly) h u, rest-left times found (terms_of d.rest) (terms_of d.quotient) (terms_of a.poly) z);
         padded = w;
       }
 
-      pub peel-done : length (terms_of d.rest) ≤ 0 → PeelsOff r f (record { outcome = O.Done; two = true; factor = a.poly; quotient = d.quotient })
+      pub peel-done : length (terms_of d.rest) ≤ 0 → PeelsOff r f (record { outcome = no_refusal; two = true; factor = a.poly; quotient = d.quotient })
       unfolding peel_one
       peel-done z = record {
         is = λ times found. rw (line-got a (neg_of r) e o, parts-got d f (terms_of a.poly) h u, rest-none times found (terms_of d.rest) (terms_of d.quotient) (terms_of a.poly) z);
@@ -88,17 +87,17 @@ module _ (r : Ratio) (f : List Ratio) (a : Answer) (e : a ≡ line_answer r) whe
 
 -- ---- root after root
 
-left-got : (l : Left) (g : Got Peel) → l ≡ left_of g → l.found.outcome ≡ O.Done → g ≡ got (start (pieces_of l.found) (terms_of l.rest))
+left-got : (l : Left) (g : Got Peel) → l ≡ left_of g → l.found.outcome ≡ no_refusal → g ≡ got (start (pieces_of l.found) (terms_of l.rest))
 left-got l (got p) e o = rw (e, found-pieces p.found, terms-of-poly p.rest)
 left-got l (none why) e o = done_refused l.found.outcome why o (ap (λ (x : Left). x.found.outcome) e)
 
-left-none : (l : Left) (g : Got Peel) (why : Reason) → l ≡ left_of g → l.found.outcome ≡ O.Refused why → g ≡ none why
+left-none : (l : Left) (g : Got Peel) (why : Reason) → l ≡ left_of g → l.found.outcome ≡ Err why → g ≡ none why
 left-none l (got p) why e o = done_refused l.found.outcome why (ap (λ (x : Left). x.found.outcome) e) o
 left-none l (none w) why e o =
-    let q : O.Refused w ≡ O.Refused why = sym (ap (λ (x : Left). x.found.outcome) e) ∙ o in
+    let q : Err w ≡ Err why = sym (ap (λ (x : Left). x.found.outcome) e) ∙ o in
     cc
 
-left-kept : (l : Left) (g : Got Peel) → l ≡ left_of g → l.found.outcome ≡ O.Done → Kept l.found
+left-kept : (l : Left) (g : Got Peel) → l ≡ left_of g → l.found.outcome ≡ no_refusal → Kept l.found
 left-kept l (got p) e o = record { is = rw e (ap found_all (sym (found-pieces p.found))) }
 left-kept l (none why) e o = done_refused l.found.outcome why o (ap (λ (x : Left). x.found.outcome) e)
 
@@ -107,7 +106,7 @@ left-padded l (got p) e = record { is = rw e (ap poly_of (sym (terms-of-poly p.r
 left-padded l (none why) e = record { is = rw e refl }
 
 -- where something is left, nothing was refused
-pub left-done : (l : Left) (g : Got Peel) → l ≡ left_of g → 0 < length (terms_of l.rest) → l.found.outcome ≡ O.Done
+pub left-done : (l : Left) (g : Got Peel) → l ≡ left_of g → 0 < length (terms_of l.rest) → l.found.outcome ≡ no_refusal
 left-done l (got p) e h = ap (λ (x : Left). x.found.outcome) e
 left-done l (none why) e h = let n : length (terms_of l.rest) ≡ 0 = ap (λ (x : Left). length (terms_of x.rest)) e in absurd (omega arith)
 
@@ -117,10 +116,10 @@ pub record Peeled (g : Got Peel) (found : Decomposition) (rest : Poly) : Type 0 
   pub kept : Kept found
   pub padded : Padded rest
 
-pub peeled-done : (l : Left) (g : Got Peel) → l ≡ left_of g → l.found.outcome ≡ O.Done → Peeled g l.found l.rest
+pub peeled-done : (l : Left) (g : Got Peel) → l ≡ left_of g → l.found.outcome ≡ no_refusal → Peeled g l.found l.rest
 peeled-done l g e o = record { is = left-got l g e o; kept = left-kept l g e o; padded = left-padded l g e }
 
-pub peeled-none : (l : Left) (g : Got Peel) (why : Reason) → l ≡ left_of g → l.found.outcome ≡ O.Refused why → g ≡ none why
+pub peeled-none : (l : Left) (g : Got Peel) (why : Reason) → l ≡ left_of g → l.found.outcome ≡ Err why → g ≡ none why
 peeled-none l g why e o = left-none l g why e o
 
 module _ (times : ℕ) (all : List Ratio) (first : Peel) where
@@ -138,10 +137,10 @@ module _ (times : ℕ) (all : List Ratio) (first : Peel) where
     unfolding peeled
     step = rw (e.is times (pieces_of found), add-one i) (rw (drop-cons all i d h) at p.whole)
 
-    pub peeling-over : (why : Reason) → x.outcome ≡ O.Refused why → stopped_for why ≡ left_of (peeled times all first)
+    pub peeling-over : (why : Reason) → x.outcome ≡ Err why → stopped_for why ≡ left_of (peeled times all first)
     peeling-over why o = ap left_of (rw o at step)
 
-    module _ (o : x.outcome ≡ O.Done) where
+    module _ (o : x.outcome ≡ no_refusal) where
       pub peeling-same : x.two ≡ false → Peeling (i + 1) found rest
       peeling-same t = record { whole = rw (o, t) at step; kept = p.kept; padded = p.padded }
 

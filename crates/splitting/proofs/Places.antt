@@ -1,11 +1,12 @@
 -- Laws of the list of factors in its array: one more where there is room.
+use Rattle.ratio.specs.Refusal.{no_refusal}
+use Rattle.std.specs.Prelude.{Ok, Err}
 use mathlib.Core.Path.{◌≡◌, sym, ap, ◌∙◌}
 use mathlib.Core.List.{List, [], ◌∷◌, ◌++◌}
 use Prim.Native.Nat.{ℕ, ◌+◌, ◌<◌, ◌≤◌}
 use native.Mathlib.Omega.{arith}
 use borrow.Author.Tests.{lt-ltb, le-ltb}
 use lib.ListN.{length, set}
-use Rattle.ratio.specs.declared.Outcome.TheVariants as O
 use Rattle.ratio.specs.declared.Ratio.{Ratio}
 use Rattle.ratio.specs.declared.Reason.{Reason}
 use Rattle.terms.specs.declared.Poly.{Poly}
@@ -59,18 +60,18 @@ unless-some p times l h = rw (le-ltb (length p) 2 h)
 -- ---- what a list of factors in memory says of the work behind it
 
 module _ (d : Decomposition) where
-  pub list-got : (g : Got (List Piece)) → d ≡ decomposition_of g → d.outcome ≡ O.Done → g ≡ got (pieces_of d)
+  pub list-got : (g : Got (List Piece)) → d ≡ decomposition_of g → d.outcome ≡ no_refusal → g ≡ got (pieces_of d)
   list-got (got l) e o = rw (e, found-pieces l)
   list-got (none why) e o = done_refused d.outcome why o (ap (λ (x : Decomposition). x.outcome) e)
 
-  pub list-kept : (g : Got (List Piece)) → d ≡ decomposition_of g → d.outcome ≡ O.Done → Kept d
+  pub list-kept : (g : Got (List Piece)) → d ≡ decomposition_of g → d.outcome ≡ no_refusal → Kept d
   list-kept (got l) e o = record { is = rw e (ap found_all (sym (found-pieces l))) }
   list-kept (none why) e o = done_refused d.outcome why o (ap (λ (x : Decomposition). x.outcome) e)
 
-  pub list-none : (g : Got (List Piece)) (why : Reason) → d ≡ decomposition_of g → d.outcome ≡ O.Refused why → g ≡ none why
+  pub list-none : (g : Got (List Piece)) (why : Reason) → d ≡ decomposition_of g → d.outcome ≡ Err why → g ≡ none why
   list-none (got l) why e o = done_refused d.outcome why (ap (λ (x : Decomposition). x.outcome) e) o
   list-none (none w) why e o =
-      let q : O.Refused w ≡ O.Refused why = sym (ap (λ (x : Decomposition). x.outcome) e) ∙ o in
+      let q : Err w ≡ Err why = sym (ap (λ (x : Decomposition). x.outcome) e) ∙ o in
       cc
 
 pub padded-made : (p : Poly) (l : List Ratio) → p ≡ poly_of l → Padded p

@@ -1,7 +1,6 @@
 -- Document 01, module 5, factors: Kronecker's method for degrees 3 to 6; the factor found and the quotient, where that has degree 1 or more.
-use Rattle.std.specs.Prelude.{◌≡◌, Bool, true, false, cond, List, [], ◌∷◌, ℕ, ltb, length}
-use Rattle.ratio.specs.declared.Outcome.{Outcome}
-use Rattle.ratio.specs.declared.Outcome.TheVariants as O
+use Rattle.std.specs.Prelude.{◌≡◌, Bool, true, false, cond, List, [], ◌∷◌, ℕ, ltb, length, Ok, Err}
+use Rattle.ratio.specs.Refusal.{Outcome}
 use Rattle.ratio.specs.declared.Ratio.{Ratio}
 use Rattle.terms.specs.declared.Poly.{Poly}
 use Rattle.terms.specs.Poly.{terms_of, poly_of}
@@ -42,8 +41,8 @@ halves_of true g q = both g q
 halves_of false g q = whole
 
 abbrev pub pair_in : Outcome → Halves → Got Halves
-pair_in O.Done h = got h
-pair_in (O.Refused why) h = none why
+pair_in (Ok _) h = got h
+pair_in (Err why) h = none why
 
 abbrev pub pair_from : Pair → Got Halves
 pair_from p = pair_in p.outcome (halves_of p.two (terms_of p.factor) (terms_of p.quotient))

@@ -1,13 +1,10 @@
 -- Document 01, module 5, factors: each rational root r is divided out as x less r where that leaves no rest.
-use Rattle.std.specs.Prelude.{◌≡◌, cond, List, [], ◌∷◌, ◌++◌, ℕ, ltb, pos, length, take}
+use Rattle.std.specs.Prelude.{◌≡◌, cond, List, [], ◌∷◌, ◌++◌, ℕ, ltb, pos, length, take, Result, Ok, Err}
 use Rattle.ratio.specs.Step.{neg_of}
-use Rattle.ratio.specs.declared.Outcome.{Outcome}
-use Rattle.ratio.specs.declared.Outcome.TheVariants as O
+use Rattle.ratio.specs.Refusal.{Outcome}
 use Rattle.ratio.specs.declared.Ratio.{Ratio}
 use Rattle.ratio.specs.declared.Reason.{Reason}
 use Rattle.ratio.specs.declared.Reason.TheVariants.{CoeffOverflow}
-use Rattle.ratio.specs.declared.Step.{Step}
-use Rattle.ratio.specs.declared.Step.TheVariants.{Done, Refused}
 use Rattle.terms.specs.declared.Answer.{Answer}
 use Rattle.terms.specs.Machine.{whole_r}
 use Rattle.terms.specs.Poly.{terms_of, poly_of}
@@ -33,13 +30,13 @@ added_unless p times found = cond (ltb (length p) 2) found (added p times found)
 abbrev pub line : Ratio → List Ratio
 line n = n ∷ whole_r (pos 1) ∷ []
 
-abbrev pub line_from : Step → Got (List Ratio)
-line_from (Done n) = got (line n)
-line_from (Refused why) = none CoeffOverflow
+abbrev pub line_from : Result Ratio Reason → Got (List Ratio)
+line_from (Ok n) = got (line n)
+line_from (Err why) = none CoeffOverflow
 
-abbrev pub line_answer_of : Step → Answer
-line_answer_of (Done n) = done_with (poly_of (line n)) 0
-line_answer_of (Refused why) = refused_with CoeffOverflow 0
+abbrev pub line_answer_of : Result Ratio Reason → Answer
+line_answer_of (Ok n) = done_with (poly_of (line n)) 0
+line_answer_of (Err why) = refused_with CoeffOverflow 0
 
 abbrev pub line_answer : Ratio → Answer
 line_answer r = line_answer_of (neg_of r)
@@ -76,8 +73,8 @@ abbrev pub stopped_for : Reason → Left
 stopped_for why = left_of (none why)
 
 abbrev pub unless_stopped : Outcome → Peel → Got Peel
-unless_stopped O.Done l = got l
-unless_stopped (O.Refused why) l = none why
+unless_stopped (Ok _) l = got l
+unless_stopped (Err why) l = none why
 
 -- what is found and left where one root comes to p
 abbrev pub peel_from : Pair → ℕ → Peel → Got Peel

@@ -1,7 +1,6 @@
 -- Document 01, module 5, `split_into_irreducibles`: rational roots first, then Kronecker; what isn't split stays whole. A refusal is handed on.
-use Rattle.std.specs.Prelude.{◌≡◌, cond, List, [], ◌∷◌, ℕ, zero, suc, ◌≤◌, ltb, eqb, length}
-use Rattle.ratio.specs.declared.Outcome.{Outcome}
-use Rattle.ratio.specs.declared.Outcome.TheVariants as O
+use Rattle.std.specs.Prelude.{◌≡◌, cond, List, [], ◌∷◌, ℕ, zero, suc, ◌≤◌, ltb, eqb, length, Ok, Err}
+use Rattle.ratio.specs.Refusal.{Outcome}
 use Rattle.ratio.specs.declared.Ratio.{Ratio}
 use Rattle.terms.specs.Poly.{terms_of, trim}
 use Rattle.search.specs.Answer.{roots_of}
@@ -16,8 +15,8 @@ abbrev pub Found : Type 0
 Found = Got (List Piece)
 
 abbrev pub on_roots : Outcome → Found → Found
-on_roots O.Done r = r
-on_roots (O.Refused why) r = none why
+on_roots (Ok _) r = r
+on_roots (Err why) r = none why
 
 -- the two parts are split one after the other
 abbrev pub on_halves : Halves → Found → (List Ratio → List Ratio → Found) → Found

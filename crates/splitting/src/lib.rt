@@ -12,7 +12,7 @@ ghost use Rattle.splitting.specs.Pair.{Padded, PaddedPair, pair_of, paired_by, p
 ghost use Rattle.splitting.specs.Split.{Kept, Splits, split_all};
 
 use kronecker::Verdict;
-use ratio::{Outcome, Ratio, Reason, Step};
+use ratio::{Ratio, Reason};
 use search::Roots;
 use terms::{Answer, Poly};
 use yun::{Decomposition, Piece};
@@ -27,7 +27,7 @@ struct Left {
 // Two factors, where there are two.
 #[derive(Clone, Copy)]
 struct Pair {
-    outcome: Outcome,
+    outcome: Result<(), Reason>,
     two: bool,
     factor: Poly,
     quotient: Poly,
@@ -51,7 +51,7 @@ fn add(found: Decomposition, p: Poly, times: u64) -> Decomposition
     out
 }
 
-fn no_pair(outcome: Outcome) -> Pair
+fn no_pair(outcome: Result<(), Reason>) -> Pair
     ensures { PaddedPair result × (result.outcome ≡ outcome) × (result.two ≡ false) }
 {
     Pair {
@@ -68,7 +68,7 @@ fn no_pair(outcome: Outcome) -> Pair
 fn line(r: Ratio) -> Answer
     ensures { result ≡ line_answer r }
 {
-    let Step::Done(n) = ratio::checked_neg(r) else {
+    let Ok(n) = ratio::checked_neg(r) else {
         return terms::refused(Reason::CoeffOverflow, 0);
     };
     let mut p = Poly::zero();
@@ -94,22 +94,22 @@ fn peel_one(f: Poly, r: Ratio) -> Pair
 {
     let a = line(r);
     let oa = a.outcome;
-    if let Outcome::Refused(why) = oa {
-        return no_pair(Outcome::Refused(why));
+    if let Err(why) = oa {
+        return no_pair(Err(why));
     }
     let x = a.poly;
     let d = remainders::divide(f, x);
     let od = d.outcome;
-    if let Outcome::Refused(why) = od {
-        return no_pair(Outcome::Refused(why));
+    if let Err(why) = od {
+        return no_pair(Err(why));
     }
     let rest = d.rest;
     if rest.length() > 0 {
-        return no_pair(Outcome::Done);
+        return no_pair(Ok(()));
     }
     let q = d.quotient;
     Pair {
-        outcome: Outcome::Done,
+        outcome: Ok(()),
         two: true,
         factor: x,
         quotient: q,
@@ -135,7 +135,7 @@ fn peel(found: Decomposition, f: Poly, roots: Roots, times: u64) -> Left
         let r = roots.values[i];
         let p = peel_one(rest, r);
         let o = p.outcome;
-        if let Outcome::Refused(why) = o {
+        if let Err(why) = o {
             return stopped(why);
         }
         i += 1;
@@ -163,19 +163,19 @@ fn divide_by(f: Poly, g: Poly) -> Pair
 {
     let d = remainders::divide(f, g);
     let o = d.outcome;
-    if let Outcome::Refused(why) = o {
-        return no_pair(Outcome::Refused(why));
+    if let Err(why) = o {
+        return no_pair(Err(why));
     }
     let rest = d.rest;
     if rest.length() > 0 {
-        return no_pair(Outcome::Done);
+        return no_pair(Ok(()));
     }
     let q = d.quotient;
     if q.length() < 2 {
-        return no_pair(Outcome::Done);
+        return no_pair(Ok(()));
     }
     Pair {
-        outcome: Outcome::Done,
+        outcome: Ok(()),
         two: true,
         factor: g,
         quotient: q,
@@ -188,19 +188,19 @@ fn halve(f: Poly, budget: u64) -> Pair
 {
     let n = f.length();
     if n < 4 {
-        return no_pair(Outcome::Done);
+        return no_pair(Ok(()));
     }
     if n > 7 {
-        return no_pair(Outcome::Done);
+        return no_pair(Ok(()));
     }
     let s = kronecker::try_split(f, budget);
     let v = s.verdict;
     let g = s.factor;
     match v {
         Verdict::Found => divide_by(f, g),
-        Verdict::Next => no_pair(Outcome::Done),
-        Verdict::NoSplit => no_pair(Outcome::Done),
-        Verdict::Refused(why) => no_pair(Outcome::Refused(why)),
+        Verdict::Next => no_pair(Ok(())),
+        Verdict::NoSplit => no_pair(Ok(())),
+        Verdict::Refused(why) => no_pair(Err(why)),
     }
 }
 
@@ -218,7 +218,7 @@ fn split(found: Decomposition, f: Poly, times: u64, budget: u64) -> Decompositio
     }
     let roots = search::roots_of(f, budget);
     let ro = roots.outcome;
-    if let Outcome::Refused(why) = ro {
+    if let Err(why) = ro {
         return yun::refused(why);
     }
     if roots.len > 0 {
@@ -234,7 +234,7 @@ fn split(found: Decomposition, f: Poly, times: u64, budget: u64) -> Decompositio
     }
     let p = halve(f, budget);
     let po = p.outcome;
-    if let Outcome::Refused(why) = po {
+    if let Err(why) = po {
         return yun::refused(why);
     }
     if !p.two {
@@ -242,7 +242,7 @@ fn split(found: Decomposition, f: Poly, times: u64, budget: u64) -> Decompositio
     }
     let a = split(found, p.factor, times, budget);
     let ao = a.outcome;
-    if let Outcome::Refused(_) = ao {
+    if let Err(_) = ao {
         return a;
     }
     split(a, p.quotient, times, budget)
@@ -263,7 +263,7 @@ pub fn split_all(d: Decomposition, budget: u64) -> Decomposition
         if q.length() != 2 {
             let next = split(found, q, piece.times, budget);
             let o = next.outcome;
-            if let Outcome::Refused(_) = o {
+            if let Err(_) = o {
                 return next;
             }
             found = next;

@@ -1,10 +1,11 @@
 -- The ends and the count: each way it can go.
+use Rattle.ratio.specs.Refusal.{no_refusal}
+use Rattle.std.specs.Prelude.{Ok, Err}
 use mathlib.Core.Path.{◌≡◌, sym, ap, ap₂}
 use mathlib.Core.Bool.{Bool, true, false, ◌&&◌}
 use mathlib.Core.List.{List}
 use Prim.Native.Nat.{ℕ, ◌-◌}
 use lib.Ieee.{Float}
-use Rattle.ratio.specs.declared.Outcome.TheVariants as O
 use Rattle.ratio.specs.declared.Ratio.{Ratio}
 use Rattle.ratio.specs.declared.Reason.{Reason}
 use Rattle.terms.specs.declared.Answer.{Answer}
@@ -31,15 +32,15 @@ pub ends-right : (lo hi : Float) (t : Bool) → inside lo ≡ true → inside hi
 ends-right lo hi t h k = ap₂ (λ (a b : Bool). open_if (a && b)) (sym h) (sym k)
 
 module _ (p : List Ratio) (lo hi : Float) (f : Answer) (e : f ≡ answer_of (square_free plain p 0)) where
-  pub free-refused : (why : Reason) → f.outcome ≡ O.Refused why → no_count why ≡ count_of (count_from p lo hi)
+  pub free-refused : (why : Reason) → f.outcome ≡ Err why → no_count why ≡ count_of (count_from p lo hi)
   unfolding count_from
   free-refused why o = rw (list-none f (square_free plain p 0) why e o)
 
-  module _ (o : f.outcome ≡ O.Done) (c : Chain) (ec : c ≡ chain_of (sequence_of (terms_of f.poly))) where
-    pub chain-refused : (why : Reason) → c.outcome ≡ O.Refused why → no_count why ≡ count_of (count_from p lo hi)
+  module _ (o : f.outcome ≡ no_refusal) (c : Chain) (ec : c ≡ chain_of (sequence_of (terms_of f.poly))) where
+    pub chain-refused : (why : Reason) → c.outcome ≡ Err why → no_count why ≡ count_of (count_from p lo hi)
     unfolding count_from
     chain-refused why oc = rw (list-got f (square_free plain p 0) e o, chain-none c (sequence_of (terms_of f.poly)) why ec oc)
 
-    pub count-done : c.outcome ≡ O.Done → (n : ℕ) → n ≡ changes (signs_at (rows_of (entries_of c)) lo) - changes (signs_at (rows_of (entries_of c)) hi) → ◌≡◌ {A = Count} (record { outcome = O.Done; count = n }) (count_of (count_from p lo hi))
+    pub count-done : c.outcome ≡ no_refusal → (n : ℕ) → n ≡ changes (signs_at (rows_of (entries_of c)) lo) - changes (signs_at (rows_of (entries_of c)) hi) → ◌≡◌ {A = Count} (record { outcome = no_refusal; count = n }) (count_of (count_from p lo hi))
     unfolding count_from
     count-done oc n h = rw (list-got f (square_free plain p 0) e o, chain-got c (sequence_of (terms_of f.poly)) ec oc, h)

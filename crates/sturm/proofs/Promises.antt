@@ -1,4 +1,5 @@
 -- The promise of the count at the door.
+use Rattle.ratio.specs.Refusal.{status_of}
 use mathlib.Core.Path.{◌≡◌, refl, sym, ap, subst, ◌∙◌}
 use mathlib.Core.Bool.{Bool, true, false, ◌&&◌}
 use mathlib.Core.List.{List, [], ◌∷◌}
@@ -7,7 +8,6 @@ use native.Mathlib.Omega.{arith}
 use lib.Ieee.{Float}
 use lib.ListN.{length, length-map}
 use Rattle.algebra.specs.Textbook.{HasDegree, IsZero}
-use Rattle.ratio.specs.Refusal.{outcome_status}
 use Rattle.ratio.specs.declared.Ratio.{Ratio}
 use Rattle.ratio.specs.declared.Reason.{Reason}
 use Rattle.terms.specs.declared.Poly.{Poly}
@@ -94,28 +94,28 @@ count-over p lo hi = then-over (list_from (square_free plain p 0)) _ (list_over 
 -- ---- the door
 
 module _ (p : Poly) (lo hi : Float) where
-  ends-bad : (inside lo && inside hi) ≡ false → outcome_status (count_for p lo hi).outcome ≡ 5
-  ends-bad h = ap (λ (b : Bool). outcome_status (entered no_count (both (open_if b) (door_of p)) (count_of (count_from (terms_of p) lo hi))).outcome) h
+  ends-bad : (inside lo && inside hi) ≡ false → status_of (count_for p lo hi).outcome ≡ 5
+  ends-bad h = ap (λ (b : Bool). status_of (entered no_count (both (open_if b) (door_of p)) (count_of (count_from (terms_of p) lo hi))).outcome) h
 
-  not-canonical : door_of p ≡ Bad → outcome_status (count_for p lo hi).outcome ≡ 5
+  not-canonical : door_of p ≡ Bad → status_of (count_for p lo hi).outcome ≡ 5
   not-canonical e = go (inside lo && inside hi)
     where
-      go : (b : Bool) → outcome_status (entered no_count (both (open_if b) (door_of p)) (count_of (count_from (terms_of p) lo hi))).outcome ≡ 5
-      go true = ap (λ (d : Gate). outcome_status (entered no_count d (count_of (count_from (terms_of p) lo hi))).outcome) e
+      go : (b : Bool) → status_of (entered no_count (both (open_if b) (door_of p)) (count_of (count_from (terms_of p) lo hi))).outcome ≡ 5
+      go true = ap (λ (d : Gate). status_of (entered no_count d (count_of (count_from (terms_of p) lo hi))).outcome) e
       go false = refl
 
-  too_long : (inside lo && inside hi) ≡ true → 32 < p.len → outcome_status (count_for p lo hi).outcome ≡ 4
+  too_long : (inside lo && inside hi) ≡ true → 32 < p.len → status_of (count_for p lo hi).outcome ≡ 4
   too_long h k =
-      ap (λ (b : Bool). outcome_status (entered no_count (both (open_if b) (door_of p)) (count_of (count_from (terms_of p) lo hi))).outcome) h
-      ∙ ap (λ (d : Gate). outcome_status (entered no_count d (count_of (count_from (terms_of p) lo hi))).outcome) (sym (door-long p k))
+      ap (λ (b : Bool). status_of (entered no_count (both (open_if b) (door_of p)) (count_of (count_from (terms_of p) lo hi))).outcome) h
+      ∙ ap (λ (d : Gate). status_of (entered no_count d (count_of (count_from (terms_of p) lo hi))).outcome) (sym (door-long p k))
 
   -- the part of the promise that doesn't ask why the door is shut
   record Kept (r : Count) : Type 0 where
-    pub counts : outcome_status r.outcome ≡ 0 → Counts (reading p) lo hi r.count
+    pub counts : status_of r.outcome ≡ 0 → Counts (reading p) lo hi r.count
     pub few : (n : ℕ) → HasDegree (reading p) n → r.count ≤ n
     pub of_zero : IsZero (reading p) → r.count ≡ 0
-    pub refused : (outcome_status r.outcome ≡ 0 → ⊥) → r.count ≡ 0
-    pub over : both (ends_of lo hi) (door_of p) ≡ Open → (outcome_status r.outcome ≡ 0 → ⊥) → outcome_status r.outcome ≡ 2
+    pub refused : (status_of r.outcome ≡ 0 → ⊥) → r.count ≡ 0
+    pub over : both (ends_of lo hi) (door_of p) ≡ Open → (status_of r.outcome ≡ 0 → ⊥) → status_of r.outcome ≡ 2
 
   shut-kept : (both (ends_of lo hi) (door_of p) ≡ Open → ⊥) → (why : Reason) → Kept (no_count why)
   shut-kept shut why = record { counts = λ s. absurd (never_done why s); few = λ n d. omega arith; of_zero = λ z. refl; refused = λ s. refl; over = λ o. absurd (shut o) }

@@ -1,8 +1,8 @@
 -- Document 01, module 6 and "order": the count of real roots. Ends that are not within ±1e15 are 5, before a length over 32 (4); then the square-free part, the chain, and the changes at the left end less those at the right, at least 0.
-use Rattle.std.specs.Prelude.{Bool, ◌&&◌, List, ℕ, ◌-◌, Float}
+use Rattle.ratio.specs.Refusal.{no_refusal}
+use Rattle.std.specs.Prelude.{Bool, ◌&&◌, List, ℕ, ◌-◌, Float, Ok, Err}
 use Rattle.std.specs.Float.{binary64}
 use Rattle.std.specs.Float.Ieee.{of_bits, neg, le}
-use Rattle.ratio.specs.declared.Outcome.TheVariants as O
 use Rattle.ratio.specs.declared.Ratio.{Ratio}
 use Rattle.ratio.specs.declared.Reason.{Reason}
 use Rattle.terms.specs.declared.Poly.{Poly}
@@ -38,10 +38,10 @@ unfoldable pub count_from : List Ratio → Float → Float → Got ℕ
 count_from p lo hi = then_got (list_from (square_free plain p 0)) (λ f. then_got (sequence_of f) (λ c. got (changes (signs_at (rows_of c) lo) - changes (signs_at (rows_of c) hi))))
 
 abbrev pub no_count : Reason → Count
-no_count why = record { outcome = O.Refused why; count = 0 }
+no_count why = record { outcome = Err why; count = 0 }
 
 abbrev pub count_of : Got ℕ → Count
-count_of (got n) = record { outcome = O.Done; count = n }
+count_of (got n) = record { outcome = no_refusal; count = n }
 count_of (none why) = no_count why
 
 abbrev pub count_for : Poly → Float → Float → Count

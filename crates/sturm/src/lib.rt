@@ -16,7 +16,7 @@ ghost use Rattle.sturm.specs.Count.{sequence_for, inside as inside_of, ends_of, 
 
 use chain::Chain;
 use poly::Gate;
-use ratio::{Outcome, Reason};
+use ratio::Reason;
 use terms::Poly;
 
 // The sign of a float; a NaN has none of the others.
@@ -46,7 +46,7 @@ pub struct Rows {
 // How many roots were counted, or why there is no number.
 #[derive(Clone, Copy)]
 pub struct Count {
-    pub outcome: Outcome,
+    pub outcome: Result<(), Reason>,
     pub count: usize,
 }
 
@@ -248,7 +248,7 @@ fn no_count(why: Reason) -> Count
     ensures { result ≡ no_count why }
 {
     Count {
-        outcome: Outcome::Refused(why),
+        outcome: Err(why),
         count: 0,
     }
 }
@@ -272,17 +272,17 @@ fn count_plain(p: Poly, lo: f64, hi: f64) -> Count
 {
     let f = remainders::free_part(p);
     let o = f.outcome;
-    if let Outcome::Refused(why) = o {
+    if let Err(why) = o {
         return no_count(why);
     }
     let sf = f.poly;
     let c = chain::sequence(sf);
     let oc = c.outcome;
-    if let Outcome::Refused(why) = oc {
+    if let Err(why) = oc {
         return no_count(why);
     }
     Count {
-        outcome: Outcome::Done,
+        outcome: Ok(()),
         count: lost(c, lo, hi),
     }
 }

@@ -1,4 +1,5 @@
 -- Laws of work that makes one result after the other: a loop that has made the first i, its turn, its end and its refusal.
+use Rattle.std.specs.Prelude.{Result, Ok, Err}
 use mathlib.Core.Path.{◌≡◌, refl, sym, ap, ◌∙◌}
 use mathlib.Core.List.{List, [], ◌∷◌, ◌++◌, append_assoc, append-nil}
 use Prim.Native.Nat.{ℕ, suc, ◌+◌, ◌-◌, ◌<◌, ◌≤◌}
@@ -9,8 +10,6 @@ use lib.Seq.{take-suc-set}
 use Rattle.ratio.specs.declared.Ratio.{Ratio}
 use Rattle.ratio.specs.declared.Reason.{Reason}
 use Rattle.ratio.specs.declared.Reason.TheVariants.{CoeffOverflow}
-use Rattle.ratio.specs.declared.Step.{Step}
-use Rattle.ratio.specs.declared.Step.TheVariants.{Done, Refused}
 use Rattle.terms.specs.Poly.{poly_of, trim}
 use Rattle.terms.specs.Machine.{Ran, fine, over, and_then, counted}
 use Rattle.terms.specs.Answer.{done_with, refused_with, answer_of, uncounted}
@@ -62,18 +61,18 @@ module _ {W Log : Type 0} (f : ℕ → Log → Ran Log W) (n : ℕ) (start : Log
       ap (fine log) (sym (append-nil (take i out))) ∙ (rw s at m.whole)
 
 -- ---- steps that are counted: as many as results were made
-module _ (s : ℕ → Step) (n : ℕ) where
+module _ (s : ℕ → Result Ratio Reason) (n : ℕ) where
   abbrev pub Counted : ℕ → List Ratio → Type 0
   Counted i out = Made (λ i k. counted k (s i)) n 0 i i out
 
   pub counted_none : (out : List Ratio) → Counted 0 out
   counted_none out = made_none (λ i k. counted k (s i)) n 0 out
 
-  pub counted-more : (i : ℕ) (out : List Ratio) (y : Ratio) → i < n → i < length out → s i ≡ Done y → Counted i out → Counted (i + 1) (set out i y)
+  pub counted-more : (i : ℕ) (out : List Ratio) (y : Ratio) → i < n → i < length out → s i ≡ Ok y → Counted i out → Counted (i + 1) (set out i y)
   counted-more i out y h k e m =
       made_more (λ i k. counted k (s i)) n 0 i i (i + 1) out y h k (rw (e, add-one i)) m
 
-  pub counted-over : (i : ℕ) (out : List Ratio) (why : Reason) → i < n → s i ≡ Refused why → Counted i out → refused_with CoeffOverflow (i + 1) ≡ answer_of (each (λ i k. counted k (s i)) n 0 0)
+  pub counted-over : (i : ℕ) (out : List Ratio) (why : Reason) → i < n → s i ≡ Err why → Counted i out → refused_with CoeffOverflow (i + 1) ≡ answer_of (each (λ i k. counted k (s i)) n 0 0)
   counted-over i out why h e m =
       ap answer_of (made-over (λ i k. counted k (s i)) n 0 i i (i + 1) out h (rw (e, add-one i)) m)
 
@@ -83,17 +82,17 @@ module _ (s : ℕ → Step) (n : ℕ) where
       rw f (ap answer_of (made_all (λ i k. counted k (s i)) n 0 i i out h m))
 
 -- ---- steps that aren't
-module _ (s : ℕ → Step) (n : ℕ) where
+module _ (s : ℕ → Result Ratio Reason) (n : ℕ) where
   abbrev pub Uncounted : ℕ → List Ratio → Type 0
   Uncounted i out = Made (λ i k. uncounted k (s i)) n 0 i 0 out
 
   pub uncounted-none : (out : List Ratio) → Uncounted 0 out
   uncounted-none out = made_none (λ i k. uncounted k (s i)) n 0 out
 
-  pub uncounted-more : (i : ℕ) (out : List Ratio) (y : Ratio) → i < n → i < length out → s i ≡ Done y → Uncounted i out → Uncounted (i + 1) (set out i y)
+  pub uncounted-more : (i : ℕ) (out : List Ratio) (y : Ratio) → i < n → i < length out → s i ≡ Ok y → Uncounted i out → Uncounted (i + 1) (set out i y)
   uncounted-more i out y h k e m = made_more (λ i k. uncounted k (s i)) n 0 i 0 0 out y h k (rw e) m
 
-  pub uncounted-over : (i : ℕ) (out : List Ratio) (why : Reason) → i < n → s i ≡ Refused why → Uncounted i out → refused_with CoeffOverflow 0 ≡ answer_of (each (λ i k. uncounted k (s i)) n 0 0)
+  pub uncounted-over : (i : ℕ) (out : List Ratio) (why : Reason) → i < n → s i ≡ Err why → Uncounted i out → refused_with CoeffOverflow 0 ≡ answer_of (each (λ i k. uncounted k (s i)) n 0 0)
   uncounted-over i out why h e m =
       ap answer_of (made-over (λ i k. uncounted k (s i)) n 0 i 0 0 out h (rw e) m)
 

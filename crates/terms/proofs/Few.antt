@@ -1,4 +1,6 @@
 -- How many steps the work makes at most, so that sums of steps fit a word.
+use Rattle.ratio.specs.declared.Reason.{Reason}
+use Rattle.std.specs.Prelude.{Result, Ok, Err}
 use mathlib.Core.Path.{◌≡◌, refl}
 use mathlib.Core.Bool.{Bool, true, false}
 use mathlib.Core.List.{List, [], ◌∷◌}
@@ -9,17 +11,15 @@ use lib.IntN.{pos}
 use lib.ListN.{length, get_or, set, replicate}
 use Rattle.ratio.specs.Refusal.{zero_r}
 use Rattle.ratio.specs.declared.Ratio.{Ratio}
-use Rattle.ratio.specs.declared.Step.{Step}
-use Rattle.ratio.specs.declared.Step.TheVariants.{Done, Refused}
 use Rattle.terms.specs.declared.Answer.{Answer}
 use Rattle.terms.proofs.StepsCount.{steps_of, few-then}
 use Rattle.terms.specs.Machine.{Op, plus, times, Ran, fine, over, counted, step_of, plain, whole_r}
 use Rattle.terms.specs.Work.{each, zipped, scaled, derived, rowed, rows, multiplied}
 use Rattle.terms.specs.Answer.{answer_of, unless_long, product_of}
 
-step-few : (n : ℕ) (s : Step) → steps_of (counted n s) ≤ n + 1
-step-few n (Done r) = omega arith
-step-few n (Refused why) = omega arith
+step-few : (n : ℕ) (s : Result Ratio Reason) → steps_of (counted n s) ≤ n + 1
+step-few n (Ok r) = omega arith
+step-few n (Err why) = omega arith
 
 module _ {X : Type 0} (f : ℕ → ℕ → Ran ℕ X) (h : (i k : ℕ) → steps_of (f i k) ≤ k + 1) where
   pub each-few : (n i k : ℕ) → steps_of (each f n i k) ≤ k + n

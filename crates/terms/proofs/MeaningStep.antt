@@ -1,4 +1,6 @@
 -- One step of the plain machine, and one after the other: what an answered step means, and why a step is refused.
+use Rattle.ratio.specs.declared.Reason.{Reason}
+use Rattle.std.specs.Prelude.{Result, Ok, Err}
 use mathlib.Core.Path.{◌≡◌, refl, sym, ◌∙◌, ap}
 use mathlib.Core.Logic.{◌⊎◌, inl, inr}
 use mathlib.Core.Bool.{Bool, true, false}
@@ -12,8 +14,6 @@ use Rattle.ratio.specs.Promise.{Fraction, Lowest}
 use Rattle.ratio.specs.Step.{neg_of}
 use Rattle.ratio.specs.declared.Ratio.{Ratio}
 use Rattle.ratio.specs.declared.Reason.TheVariants.{CoeffOverflow}
-use Rattle.ratio.specs.declared.Step.{Step}
-use Rattle.ratio.specs.declared.Step.TheVariants.{Done, Refused}
 use Rattle.ratio.proofs.Steps.{value, add_done, sub-done, mul-done, neg-done, add-fits, sub-fits, mul-fits, add-value, sub-value, mul-value, neg_value, add-either, sub-either, mul-either, neg_is}
 use Rattle.terms.specs.Machine.{Op, plus, minus, times, Ran, fine, over, and_then, step_of, counted, plain}
 use Rattle.terms.specs.Answer.{op_if, uncounted}
@@ -47,15 +47,15 @@ module _ {Log X Y : Type 0} where
 
 -- ---- what a step notes
 
-pub counted-done : (n k : ℕ) (s : Step) (r : Ratio) → counted n s ≡ fine k r → s ≡ Done r
-counted-done n k (Done x) r e = ap Done (same_answer _ _ x r e)
-counted-done n k (Refused why) r e = absurd (fine-or-over _ _ r e)
+pub counted-done : (n k : ℕ) (s : Result Ratio Reason) (r : Ratio) → counted n s ≡ fine k r → s ≡ Ok r
+counted-done n k (Ok x) r e = ap Ok (same_answer _ _ x r e)
+counted-done n k (Err why) r e = absurd (fine-or-over _ _ r e)
 
-pub uncounted-done : (n k : ℕ) (s : Step) (r : Ratio) → uncounted n s ≡ fine k r → s ≡ Done r
-uncounted-done n k (Done x) r e = ap Done (same_answer _ _ x r e)
-uncounted-done n k (Refused why) r e = absurd (fine-or-over _ _ r e)
+pub uncounted-done : (n k : ℕ) (s : Result Ratio Reason) (r : Ratio) → uncounted n s ≡ fine k r → s ≡ Ok r
+uncounted-done n k (Ok x) r e = ap Ok (same_answer _ _ x r e)
+uncounted-done n k (Err why) r e = absurd (fine-or-over _ _ r e)
 
-counted-refused : (n k : ℕ) (s : Step) → ((r : Ratio) × (s ≡ Done r)) ⊎ (s ≡ Refused CoeffOverflow) → counted n s ≡ over k → s ≡ Refused CoeffOverflow
+counted-refused : (n k : ℕ) (s : Result Ratio Reason) → ((r : Ratio) × (s ≡ Ok r)) ⊎ (s ≡ Err CoeffOverflow) → counted n s ≡ over k → s ≡ Err CoeffOverflow
 counted-refused n k s (inl (r, p)) e = absurd (fine-or-over k _ r (sym e ∙ ap (counted n) p))
 counted-refused n k s (inr p) e = p
 
@@ -76,16 +76,16 @@ module _ {A : Type 0} (R : CRing A) where
 
 -- ---- an answered step
 
-step_value : (t : Bool) (a b r : Ratio) → step_of (op_if t) a b ≡ Done r → value r ≡ value a +ℚ turned ℚ-ring t (value b)
+step_value : (t : Bool) (a b r : Ratio) → step_of (op_if t) a b ≡ Ok r → value r ≡ value a +ℚ turned ℚ-ring t (value b)
 step_value true a b r e = sub-value a b r e
 step_value false a b r e = add-value a b r e
 
-pub step-lowest : (op : Op) (a b r : Ratio) → step_of op a b ≡ Done r → Lowest r
+pub step-lowest : (op : Op) (a b r : Ratio) → step_of op a b ≡ Ok r → Lowest r
 step-lowest plus a b r e = (add_done a b r e).1
 step-lowest minus a b r e = (sub-done a b r e).1
 step-lowest times a b r e = (mul-done a b r e).1
 
-step-fractions : (op : Op) (a b r : Ratio) → step_of op a b ≡ Done r → Fraction a × Fraction b
+step-fractions : (op : Op) (a b r : Ratio) → step_of op a b ≡ Ok r → Fraction a × Fraction b
 step-fractions plus a b r e = let f = add-fits a b r e in (f.a-fraction, f.b-fraction)
 step-fractions minus a b r e = let f = sub-fits a b r e in (f.a-fraction, f.b-fraction)
 step-fractions times a b r e = let f = mul-fits a b r e in (f.a-fraction, f.b-fraction)
@@ -112,12 +112,12 @@ module _ (a : Ratio) (n n' : ℕ) (r : Ratio) (e : uncounted n (neg_of a) ≡ fi
 
 -- ---- a refused step of two fractions left the range; a negative is never refused
 
-pub step-either : (op : Op) (a b : Ratio) → Fraction a → Fraction b → ((r : Ratio) × (step_of op a b ≡ Done r)) ⊎ (step_of op a b ≡ Refused CoeffOverflow)
+pub step-either : (op : Op) (a b : Ratio) → Fraction a → Fraction b → ((r : Ratio) × (step_of op a b ≡ Ok r)) ⊎ (step_of op a b ≡ Err CoeffOverflow)
 step-either plus a b f g = add-either a b f g
 step-either minus a b f g = sub-either a b f g
 step-either times a b f g = mul-either a b f g
 
-pub made-refused : (op : Op) (a b : Ratio) (n n' : ℕ) → Fraction a → Fraction b → plain.make op a b n ≡ over n' → step_of op a b ≡ Refused CoeffOverflow
+pub made-refused : (op : Op) (a b : Ratio) (n n' : ℕ) → Fraction a → Fraction b → plain.make op a b n ≡ over n' → step_of op a b ≡ Err CoeffOverflow
 made-refused op a b n n' f g e = counted-refused n n' (step_of op a b) (step-either op a b f g) e
 
 pub turned-answered : (a : Ratio) (n n' : ℕ) → Fraction a → uncounted n (neg_of a) ≡ over n' → ⊥

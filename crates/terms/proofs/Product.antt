@@ -1,4 +1,5 @@
 -- Laws of the product: spare places behind it stay as they are, and a loop that has added i rows and j places of the next, its turns, its end and its refusals.
+use Rattle.std.specs.Prelude.{Ok, Err}
 use mathlib.Core.Path.{◌≡◌, refl, sym, ap, ◌∙◌}
 use mathlib.Core.Bool.{Bool, true, false}
 use mathlib.Core.List.{List, [], ◌∷◌, ◌++◌}
@@ -12,7 +13,6 @@ use Rattle.ratio.specs.Refusal.{zero_r}
 use Rattle.ratio.specs.declared.Ratio.{Ratio}
 use Rattle.ratio.specs.Step.{add_of, mul_of}
 use Rattle.ratio.specs.declared.Reason.{Reason}
-use Rattle.ratio.specs.declared.Step.TheVariants.{Done, Refused}
 use Rattle.ratio.specs.declared.Reason.TheVariants.{CoeffOverflow, TooLong}
 use Rattle.terms.specs.declared.Row.{Row}
 use Rattle.terms.specs.Poly.{drop_top, poly_of, trim}
@@ -95,18 +95,18 @@ module _ (a b : List Ratio) where
         record { whole = left-whole (drop (i + 1) a) b (i + 1) acc steps ∙ ap (λ (m : ℕ). rows plain acc (i + 1) (drop m a) b steps) (add-one i) ∙ (rw (drop-cons a i zero_r h, e) at s.whole) }
 
     module _ (k : j < length b) where
-      pub summed-place : (t r : Ratio) → mul_of (get_or a i zero_r) (get_or b j zero_r) ≡ Done t → add_of (get_or acc (i + j) zero_r) t ≡ Done r → Summed i (j + 1) (steps + 2) (set acc (i + j) r)
+      pub summed-place : (t r : Ratio) → mul_of (get_or a i zero_r) (get_or b j zero_r) ≡ Ok t → add_of (get_or acc (i + j) zero_r) t ≡ Ok r → Summed i (j + 1) (steps + 2) (set acc (i + j) r)
       unfolding rowed
       summed-place t r e f =
           let m : i + (j + 1) ≡ i + j + 1 = omega arith in
           let n : steps + 2 ≡ suc (suc steps) = omega arith in
           record { whole = rw (drop-cons a i zero_r h, m, n, add-one j) (rw (drop-cons a i zero_r h, drop-cons b j zero_r k, e, f) at s.whole) }
 
-      pub times-over : (why : Reason) → mul_of (get_or a i zero_r) (get_or b j zero_r) ≡ Refused why → over (steps + 1) ≡ rows plain (replicate 32 zero_r) 0 a b 0
+      pub times-over : (why : Reason) → mul_of (get_or a i zero_r) (get_or b j zero_r) ≡ Err why → over (steps + 1) ≡ rows plain (replicate 32 zero_r) 0 a b 0
       unfolding rowed
       times-over why e = rw (add-one steps) (rw (drop-cons a i zero_r h, drop-cons b j zero_r k, e) at s.whole)
 
-      pub plus-over : (t : Ratio) (why : Reason) → mul_of (get_or a i zero_r) (get_or b j zero_r) ≡ Done t → add_of (get_or acc (i + j) zero_r) t ≡ Refused why → over (steps + 2) ≡ rows plain (replicate 32 zero_r) 0 a b 0
+      pub plus-over : (t : Ratio) (why : Reason) → mul_of (get_or a i zero_r) (get_or b j zero_r) ≡ Ok t → add_of (get_or acc (i + j) zero_r) t ≡ Err why → over (steps + 2) ≡ rows plain (replicate 32 zero_r) 0 a b 0
       unfolding rowed
       plus-over t why e f =
           let n : steps + 2 ≡ suc (suc steps) = omega arith in

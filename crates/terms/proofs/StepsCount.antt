@@ -1,4 +1,6 @@
 -- How many steps the plain machine counts: exactly so many where the work is answered, at most so many where it is refused.
+use Rattle.ratio.specs.declared.Reason.{Reason}
+use Rattle.std.specs.Prelude.{Result, Ok, Err}
 use mathlib.Core.Path.{◌≡◌, refl, ap, subst}
 use mathlib.Core.Bool.{Bool, true, false}
 use mathlib.Core.List.{List, [], ◌∷◌}
@@ -8,8 +10,6 @@ use lib.IntN.{pos}
 use lib.ListN.{length, get_or, set, take, length-take, length-set}
 use Rattle.ratio.specs.Refusal.{zero_r}
 use Rattle.ratio.specs.declared.Ratio.{Ratio}
-use Rattle.ratio.specs.declared.Step.{Step}
-use Rattle.ratio.specs.declared.Step.TheVariants.{Done, Refused}
 use Rattle.terms.specs.Machine.{Op, times, Ran, fine, over, and_then, counted, step_of, plain, whole_r}
 use Rattle.terms.specs.Poly.{on_top, drop_top}
 use Rattle.terms.specs.Work.{each, scaled, derived, rowed}
@@ -60,9 +60,9 @@ pub few-then : {X Y : Type 0} (m n : ℕ) (r : Ran ℕ X) (f : ℕ → X → Ran
 few-then m n (fine k x) f h l g = g k x h
 few-then m n (over k) f h l g = omega arith
 
-pub step-takes : (k : ℕ) (s : Step) → Takes Any k 1 (counted k s)
-step-takes k (Done r) = (omega arith, tt)
-step-takes k (Refused why) = omega arith
+pub step-takes : (k : ℕ) (s : Result Ratio Reason) → Takes Any k 1 (counted k s)
+step-takes k (Ok r) = (omega arith, tt)
+step-takes k (Err why) = omega arith
 
 -- one step an item: as many steps as items
 module _ {X : Type 0} (f : ℕ → ℕ → Ran ℕ X) (h : (i k : ℕ) → Takes Any k 1 (f i k)) where

@@ -1,4 +1,6 @@
 -- The plain machine only counts: what starts with k steps is what starts with none, with k more on the counter. By the relation of the plain machine to itself.
+use Rattle.ratio.specs.declared.Reason.{Reason}
+use Rattle.std.specs.Prelude.{Result, Ok, Err}
 use mathlib.Core.Path.{◌≡◌, refl, ap₂, ap}
 use mathlib.Core.List.{List, [], ◌∷◌}
 use Prim.Native.Nat.{ℕ, suc, ◌+◌}
@@ -6,8 +8,6 @@ use native.Mathlib.Omega.{arith}
 use Rattle.ratio.specs.Refusal.{ratio_of}
 use Rattle.ratio.specs.Step.{inv_of}
 use Rattle.ratio.specs.declared.Ratio.{Ratio}
-use Rattle.ratio.specs.declared.Step.{Step}
-use Rattle.ratio.specs.declared.Step.TheVariants.{Done, Refused}
 use Rattle.terms.specs.Machine.{Op, Ran, fine, over, counted, step_of, plain}
 use Rattle.terms.proofs.StepsRelated.{Pairwise, none, more, Relation, Outcome, answered, refused, Kept}
 
@@ -36,9 +36,9 @@ module _ (k : ℕ) where
     Wholes = λ z. Unit {0};
   }
 
-  step-shifted : (m n : ℕ) (s : Step) → m ≡ k + n → Outcome shifting (λ w x y. x ≡ y) tt (counted m s) (counted n s)
-  step-shifted m n (Done r) e = let q : suc m ≡ k + suc n = omega arith in answered tt tt q refl
-  step-shifted m n (Refused why) e = let q : suc m ≡ k + suc n = omega arith in refused q
+  step-shifted : (m n : ℕ) (s : Result Ratio Reason) → m ≡ k + n → Outcome shifting (λ w x y. x ≡ y) tt (counted m s) (counted n s)
+  step-shifted m n (Ok r) e = let q : suc m ≡ k + suc n = omega arith in answered tt tt q refl
+  step-shifted m n (Err why) e = let q : suc m ≡ k + suc n = omega arith in refused q
 
   make-shifted : (op : Op) (m n : ℕ) (x u y v : Ratio) → m ≡ k + n → x ≡ y → u ≡ v → Outcome shifting (λ w x y. x ≡ y) tt (counted m (step_of op x u)) (counted n (step_of op y v))
   make-shifted op m n x u y v e p q = rw (p, q) (step-shifted m n (step_of op y v) e)

@@ -1,13 +1,10 @@
 -- Document 01, "what must change shape": the outcome beside the polynomial. What the work on polynomials answers; a refused one is zero with the steps so far.
-use Rattle.std.specs.Prelude.{Bool, true, false, ◌&&◌, List, [], ◌∷◌, ℕ, ◌+◌, ◌-◌, ltb, leb, pos, length, get_or, replicate}
-use Rattle.ratio.specs.Refusal.{zero_r}
+use Rattle.std.specs.Prelude.{Bool, true, false, ◌&&◌, List, [], ◌∷◌, ℕ, ◌+◌, ◌-◌, ltb, leb, pos, length, get_or, replicate, Result, Ok, Err}
+use Rattle.ratio.specs.Refusal.{zero_r, no_refusal}
 use Rattle.ratio.specs.Step.{neg_of}
-use Rattle.ratio.specs.declared.Outcome.TheVariants as O
 use Rattle.ratio.specs.declared.Ratio.{Ratio}
 use Rattle.ratio.specs.declared.Reason.{Reason}
 use Rattle.ratio.specs.declared.Reason.TheVariants.{CoeffOverflow, TooLong}
-use Rattle.ratio.specs.declared.Step.{Step}
-use Rattle.ratio.specs.declared.Step.TheVariants as S
 use Rattle.terms.specs.declared.Poly.{Poly}
 use Rattle.terms.specs.declared.Answer.{Answer}
 use Rattle.terms.specs.declared.Row.{Row}
@@ -16,10 +13,10 @@ use Rattle.terms.specs.Machine.{Op, plus, minus, Ran, fine, over, plain, whole_r
 use Rattle.terms.specs.Work.{each, rowed, multiplied, valued}
 
 abbrev pub done_with : Poly → ℕ → Answer
-done_with p k = record { outcome = O.Done; poly = p; steps = k }
+done_with p k = record { outcome = no_refusal; poly = p; steps = k }
 
 abbrev pub refused_with : Reason → ℕ → Answer
-refused_with why k = record { outcome = O.Refused why; poly = poly_of []; steps = k }
+refused_with why k = record { outcome = Err why; poly = poly_of []; steps = k }
 
 -- a step that leaves the range is the answer's own refusal
 abbrev pub answer_of : Ran ℕ (List Ratio) → Answer
@@ -31,9 +28,9 @@ op_if true = minus
 op_if false = plus
 
 -- a negation is no step
-abbrev pub uncounted : ℕ → Step → Ran ℕ Ratio
-uncounted n (S.Done r) = fine n r
-uncounted n (S.Refused why) = over n
+abbrev pub uncounted : ℕ → Result Ratio Reason → Ran ℕ Ratio
+uncounted n (Ok r) = fine n r
+uncounted n (Err why) = over n
 
 unfoldable pub negated_of : List Ratio → Ran ℕ (List Ratio)
 negated_of a = each (λ i n. uncounted n (neg_of (get_or a i zero_r))) (length a) 0 0
@@ -48,12 +45,12 @@ product_of [] b = answer_of (fine 0 [])
 product_of (x ∷ a) [] = answer_of (fine 0 [])
 product_of (x ∷ a) (y ∷ b) = unless_long (ltb 32 (length (x ∷ a) + length (y ∷ b) - 1)) (answer_of (multiplied plain (x ∷ a) (y ∷ b) 0))
 
-abbrev pub step_from : Ran ℕ Ratio → Step
-step_from (fine k r) = S.Done r
-step_from (over k) = S.Refused CoeffOverflow
+abbrev pub step_from : Ran ℕ Ratio → Result Ratio Reason
+step_from (fine k r) = Ok r
+step_from (over k) = Err CoeffOverflow
 
 -- the value at x
-unfoldable pub value_of : List Ratio → Ratio → Step
+unfoldable pub value_of : List Ratio → Ratio → Result Ratio Reason
 value_of a x = step_from (valued plain a x (whole_r (pos 1)) zero_r 0)
 
 -- the coefficients of a product under way

@@ -1,10 +1,9 @@
 -- Document 01, module 4: a step is one checked add, subtract or multiply. The work on polynomials is written once, over a machine that makes the steps.
-use Rattle.std.specs.Prelude.{ℕ, suc, ℤ, pos}
+use Rattle.ratio.specs.declared.Reason.{Reason}
+use Rattle.std.specs.Prelude.{ℕ, suc, ℤ, pos, Result, Ok, Err}
 use Rattle.ratio.specs.Refusal.{ratio_of}
 use Rattle.ratio.specs.Step.{add_of, sub_of, mul_of, inv_of}
 use Rattle.ratio.specs.declared.Ratio.{Ratio}
-use Rattle.ratio.specs.declared.Step.{Step}
-use Rattle.ratio.specs.declared.Step.TheVariants.{Done, Refused}
 
 pub data Op : Type 0 where
   plus : Op
@@ -27,14 +26,14 @@ pub record Machine (W Log : Type 0) : Type 0 where
   pub whole : ℤ → W
   pub inverse : W → W
 
-abbrev pub step_of : Op → Ratio → Ratio → Step
+abbrev pub step_of : Op → Ratio → Ratio → Result Ratio Reason
 step_of plus a b = add_of a b
 step_of minus a b = sub_of a b
 step_of times a b = mul_of a b
 
-abbrev pub counted : ℕ → Step → Ran ℕ Ratio
-counted n (Done r) = fine (suc n) r
-counted n (Refused why) = over (suc n)
+abbrev pub counted : ℕ → Result Ratio Reason → Ran ℕ Ratio
+counted n (Ok r) = fine (suc n) r
+counted n (Err why) = over (suc n)
 
 abbrev pub whole_r : ℤ → Ratio
 whole_r z = record { num = z; den = pos 1 }

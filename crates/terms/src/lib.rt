@@ -12,7 +12,7 @@ ghost use Rattle.terms.specs.Machine.{plus, minus, plain, step_of, whole_r};
 ghost use Rattle.terms.specs.Work.{zipped, scaled, derived, rowed};
 ghost use Rattle.terms.specs.Answer.{done_with, refused_with, answer_of, op_if, negated_of, product_of, value_of, row_of, row_over, row_given};
 
-use ratio::{Outcome, Ratio, Reason, Step};
+use ratio::{Ratio, Reason};
 
 #[derive(Clone, Copy)]
 pub struct Poly {
@@ -23,7 +23,7 @@ pub struct Poly {
 // A polynomial, or why there is none, with the steps that were made.
 #[derive(Clone, Copy)]
 pub struct Answer {
-    pub outcome: Outcome,
+    pub outcome: Result<(), Reason>,
     pub poly: Poly,
     pub steps: u64,
 }
@@ -38,7 +38,7 @@ pub fn refused(why: Reason, steps: u64) -> Answer
     ensures is { result ≡ refused_with why steps }
 {
     Answer {
-        outcome: Outcome::Refused(why),
+        outcome: Err(why),
         poly: Poly::zero(),
         steps,
     }
@@ -101,7 +101,7 @@ impl Poly {
         let mut i: usize = 0;
         while i < n {
             let x = self.coeffs[i];
-            let Step::Done(y) = ratio::checked_mul(x, c) else {
+            let Ok(y) = ratio::checked_mul(x, c) else {
                 return refused(Reason::CoeffOverflow, (i as u64) + 1);
             };
             let num = y.num;
@@ -123,7 +123,7 @@ impl Poly {
         let mut i: usize = 0;
         while i < n {
             let x = self.coeffs[i];
-            let Step::Done(y) = ratio::checked_neg(x) else {
+            let Ok(y) = ratio::checked_neg(x) else {
                 return refused(Reason::CoeffOverflow, 0);
             };
             let num = y.num;
@@ -145,7 +145,7 @@ impl Poly {
         let mut i: usize = 0;
         while i < n {
             let x = self.coeffs[i + 1];
-            let Step::Done(y) = ratio::checked_mul(x, index(i + 1)) else {
+            let Ok(y) = ratio::checked_mul(x, index(i + 1)) else {
                 return refused(Reason::CoeffOverflow, (i as u64) + 1);
             };
             let num = y.num;
@@ -170,7 +170,7 @@ impl Poly {
         while i < n {
             let x = self.coeffs[i];
             let y = other.coeffs[i];
-            let Step::Done(s) = combine(subtract, used(x, i, a), used(y, i, b)) else {
+            let Ok(s) = combine(subtract, used(x, i, a), used(y, i, b)) else {
                 return refused(Reason::CoeffOverflow, (i as u64) + 1);
             };
             let num = s.num;
@@ -218,13 +218,13 @@ impl Poly {
             }
             let x = self.coeffs[i];
             let y = other.coeffs[j];
-            let Step::Done(t) = ratio::checked_mul(x, y) else {
+            let Ok(t) = ratio::checked_mul(x, y) else {
                 return refused(Reason::CoeffOverflow, steps + 1);
             };
             let at = i + j;
             let u = nums[at];
             let v = dens[at];
-            let Step::Done(s) = ratio::checked_add(Ratio { num: u, den: v }, t) else {
+            let Ok(s) = ratio::checked_add(Ratio { num: u, den: v }, t) else {
                 return refused(Reason::CoeffOverflow, steps + 2);
             };
             let num = s.num;
@@ -239,7 +239,7 @@ impl Poly {
 
     // The value at x; after the last coefficient one power more is taken, as in the original.
     // The sum sn/sd and the power pn/pd are kept as numbers: a fraction that a step has just written in two pieces is slow to copy in one.
-    pub fn value_at(self, x: Ratio) -> Step
+    pub fn value_at(self, x: Ratio) -> Result<Ratio, Reason>
         ensures is { result ≡ value_of (terms_of self) x }
     {
         let n = self.length();
@@ -250,14 +250,14 @@ impl Poly {
         let mut i: usize = 0;
         while i < n {
             let c = self.coeffs[i];
-            let Step::Done(t) = ratio::checked_mul(c, Ratio { num: pn, den: pd }) else {
-                return Step::Refused(Reason::CoeffOverflow);
+            let Ok(t) = ratio::checked_mul(c, Ratio { num: pn, den: pd }) else {
+                return Err(Reason::CoeffOverflow);
             };
-            let Step::Done(s) = ratio::checked_add(Ratio { num: sn, den: sd }, t) else {
-                return Step::Refused(Reason::CoeffOverflow);
+            let Ok(s) = ratio::checked_add(Ratio { num: sn, den: sd }, t) else {
+                return Err(Reason::CoeffOverflow);
             };
-            let Step::Done(p) = ratio::checked_mul(Ratio { num: pn, den: pd }, x) else {
-                return Step::Refused(Reason::CoeffOverflow);
+            let Ok(p) = ratio::checked_mul(Ratio { num: pn, den: pd }, x) else {
+                return Err(Reason::CoeffOverflow);
             };
             sn = s.num;
             sd = s.den;
@@ -265,7 +265,7 @@ impl Poly {
             pd = p.den;
             i += 1;
         }
-        Step::Done(Ratio { num: sn, den: sd })
+        Ok(Ratio { num: sn, den: sd })
     }
 }
 
@@ -273,7 +273,7 @@ pub fn done(poly: Poly, steps: u64) -> Answer
     ensures is { result ≡ done_with poly steps }
 {
     Answer {
-        outcome: Outcome::Done,
+        outcome: Ok(()),
         poly,
         steps,
     }
@@ -352,7 +352,7 @@ fn index(i: usize) -> Ratio
     }
 }
 
-fn combine(subtract: bool, x: Ratio, y: Ratio) -> Step
+fn combine(subtract: bool, x: Ratio, y: Ratio) -> Result<Ratio, Reason>
     ensures { result ≡ step_of (op_if subtract) x y }
 {
     if subtract {
@@ -381,11 +381,11 @@ fn add_row(acc: [Ratio; 32], k: usize, x: Ratio, b: Poly, steps: u64) -> Row
     let mut j: usize = 0;
     while j < m {
         let c = b.coeffs[j];
-        let Step::Done(t) = ratio::checked_mul(x, c) else {
+        let Ok(t) = ratio::checked_mul(x, c) else {
             return row_refused(count + 1);
         };
         let old = out[k + j];
-        let Step::Done(s) = ratio::checked_add(old, t) else {
+        let Ok(s) = ratio::checked_add(old, t) else {
             return row_refused(count + 2);
         };
         out[k + j] = s;
@@ -426,11 +426,11 @@ fn sub_row(acc: [Ratio; 32], k: usize, x: Ratio, b: Poly, steps: u64) -> Row
     let mut j: usize = 0;
     while j < m {
         let c = b.coeffs[j];
-        let Step::Done(t) = ratio::checked_mul(y, c) else {
+        let Ok(t) = ratio::checked_mul(y, c) else {
             return row_refused(made + 1);
         };
         let old = out[k + j];
-        let Step::Done(s) = ratio::checked_add(old, t) else {
+        let Ok(s) = ratio::checked_add(old, t) else {
             return row_refused(made + 2);
         };
         out[k + j] = s;

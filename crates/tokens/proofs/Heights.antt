@@ -1,4 +1,5 @@
 -- One turn of the check: the first word decides, or the rest does.
+use Rattle.std.specs.Prelude.{Err}
 use mathlib.Core.Path.{◌≡◌, ap, ◌∙◌}
 use mathlib.Core.Bool.{Bool, true, false, cond}
 use mathlib.Core.List.{List, [], ◌∷◌}
@@ -7,7 +8,6 @@ use native.Mathlib.Omega.{arith}
 use native.Mathlib.Numerals.{add-one}
 use lib.ListN.{length, take, drop, length-take, length-drop, drop_of_length-le}
 use lib.Seq.{length-take-le, drop-cons, drop-drop}
-use Rattle.ratio.specs.declared.Outcome.TheVariants as O
 use Rattle.ratio.specs.declared.Reason.TheVariants as R
 use Rattle.tokens.specs.declared.Height.{Height}
 use Rattle.tokens.specs.declared.Token.{Token}
@@ -37,7 +37,7 @@ module _ (s : List ℕ) (at end : ℕ) (h : at ≤ length s) (e : end ≡ at + w
   word-length = omega (arith, length-take-le (end - at) (drop at s) (omega (arith, end-within, length-drop at s)))
 
   module _ (H : Height) where
-    pub turn-bad : is_bad (token_of (take (end - at) (drop at s))) H ≡ true → O.Refused (R.Malformed at) ≡ check_from (length s) at H (words_of (drop at s))
+    pub turn-bad : is_bad (token_of (take (end - at) (drop at s))) H ≡ true → Err (R.Malformed at) ≡ check_from (length s) at H (words_of (drop at s))
     unfolding check_from
     turn-bad t = rw (words-at, t)
 

@@ -1,7 +1,6 @@
 -- Document 01, module 7 and "order": 5 for the first bad token in the text's order, then 4 for over 16 values before any `?`.
-use Rattle.std.specs.Prelude.{Bool, true, false, cond, List, [], ◌∷◌, ℕ, ◌+◌, ◌-◌, ltb, eqb, length}
-use Rattle.ratio.specs.declared.Outcome.{Outcome}
-use Rattle.ratio.specs.declared.Outcome.TheVariants as O
+use Rattle.std.specs.Prelude.{Bool, true, false, cond, List, [], ◌∷◌, ℕ, ◌+◌, ◌-◌, ltb, eqb, length, Ok, Err}
+use Rattle.ratio.specs.Refusal.{Outcome, no_refusal}
 use Rattle.ratio.specs.declared.Reason.TheVariants as R
 use Rattle.tokens.specs.declared.Height.{Height}
 use Rattle.tokens.specs.declared.Token.{Token}
@@ -56,17 +55,17 @@ after t h =
 
 -- over 16 values is 4
 abbrev pub room_of : Height → Outcome
-room_of h = cond h.deep (O.Refused R.TooLong) O.Done
+room_of h = cond h.deep (Err R.TooLong) no_refusal
 
 -- at the text's end one value is left, or a token is missing
 abbrev pub finish : ℕ → Height → Outcome
-finish end h = cond h.past (room_of h) (cond (eqb h.values 1) (room_of h) (O.Refused (R.Malformed end)))
+finish end h = cond h.past (room_of h) (cond (eqb h.values 1) (room_of h) (Err (R.Malformed end)))
 
 -- the rest of the words, of which the first starts at a place
 unfoldable pub check_from : ℕ → ℕ → Height → List (List ℕ) → Outcome
 check_from end at h [] = finish end h
 check_from end at h (w ∷ ws) =
-    cond (is_bad (token_of w) h) (O.Refused (R.Malformed at))
+    cond (is_bad (token_of w) h) (Err (R.Malformed at))
     (check_from end (at + length w + 1) (after (token_of w) h) ws)
 
 abbrev pub bare : Height

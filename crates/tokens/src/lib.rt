@@ -8,7 +8,7 @@ ghost use Rattle.tokens.specs.Spelling.{digit_of, number_of, bits_of, index_of, 
 ghost use Rattle.tokens.specs.Words.{length_to, word_length};
 ghost use Rattle.tokens.specs.Heights.{takes as takes_of, is_other, is_malformed, is_bad, after as after_of, room_of, finish as finish_of, check_of};
 
-use ratio::{Outcome, Reason};
+use ratio::Reason;
 
 // One token. Constants and exponents are floats, given by their bits.
 #[derive(Clone, Copy)]
@@ -302,7 +302,7 @@ impl Height {
     }
 
     // At the text's end one value is left, or a token is missing.
-    fn finish(self, end: usize) -> Outcome
+    fn finish(self, end: usize) -> Result<(), Reason>
         ensures { result ≡ finish_of end self }
     {
         if self.past {
@@ -310,23 +310,23 @@ impl Height {
         } else if self.values == 1 {
             self.room()
         } else {
-            Outcome::Refused(Reason::Malformed { at: end })
+            Err(Reason::Malformed { at: end })
         }
     }
 
-    fn room(self) -> Outcome
+    fn room(self) -> Result<(), Reason>
         ensures { result ≡ room_of self }
     {
         if self.deep {
-            Outcome::Refused(Reason::TooLong)
+            Err(Reason::TooLong)
         } else {
-            Outcome::Done
+            Ok(())
         }
     }
 }
 
 // Whether a text is an expression of at most 16 values: 5 with the first bad token's place, then 4.
-pub fn check(text: &[u8]) -> Outcome
+pub fn check(text: &[u8]) -> Result<(), Reason>
     ensures is { result ≡ check_of text.now }
 {
     let mut height = Height {
@@ -339,7 +339,7 @@ pub fn check(text: &[u8]) -> Outcome
         let end = word_end(text, at);
         let token = token_of(&text[at..end]);
         if height.is_bad(token) {
-            return Outcome::Refused(Reason::Malformed { at });
+            return Err(Reason::Malformed { at });
         }
         height = height.after(token);
         if end == text.len() {

@@ -1,4 +1,6 @@
 -- The loop: what is left of the rounds gives all of them.
+use Rattle.ratio.specs.Refusal.{no_refusal}
+use Rattle.std.specs.Prelude.{Ok, Err}
 use mathlib.Core.Path.{◌≡◌, refl, sym, ap, subst, ◌∙◌}
 use mathlib.Core.Bool.{true, false}
 use mathlib.Core.List.{List, [], ◌∷◌}
@@ -6,7 +8,6 @@ use Prim.Native.Nat.{ℕ, suc, ◌+◌, ◌-◌, ◌<◌, ◌≤◌}
 use native.Mathlib.Numerals.{add-one}
 use native.Mathlib.Omega.{arith}
 use lib.ListN.{length, set}
-use Rattle.ratio.specs.declared.Outcome.TheVariants as O
 use Rattle.ratio.specs.declared.Ratio.{Ratio}
 use Rattle.ratio.specs.declared.Reason.{Reason}
 use Rattle.terms.specs.Poly.{terms_of}
@@ -60,10 +61,10 @@ module _ (n : ℕ) (b₀ c₀ : List Ratio) (i : ℕ) (b c : List Ratio) (found 
     step : go_on (turn_from (i + 1) t (pieces_of found)) (λ found b c. rounds (n - (i + 1)) (suc (i + 1)) b c found) ≡ rounds n 1 b₀ c₀ []
     step = rw (e.is (i + 1) (pieces_of found), add-one i) (sym (rounds-more (n - i) (n - suc i) (suc i) b c (pieces_of found) (omega arith)) ∙ g.whole)
 
-    pub going-refused : (why : Reason) → t.outcome ≡ O.Refused why → none why ≡ rounds n 1 b₀ c₀ []
+    pub going-refused : (why : Reason) → t.outcome ≡ Err why → none why ≡ rounds n 1 b₀ c₀ []
     going-refused why o = rw o at step
 
-    module _ (o : t.outcome ≡ O.Done) where
+    module _ (o : t.outcome ≡ no_refusal) where
       pub going-whole : t.whole ≡ true → got [] ≡ rounds n 1 b₀ c₀ []
       going-whole w = rw (o, w) at step
 

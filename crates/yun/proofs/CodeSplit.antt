@@ -1,10 +1,11 @@
 -- What stands around the loop: the divisions by the gcd, the derivative, and the polynomial that stays whole.
+use Rattle.ratio.specs.Refusal.{no_refusal}
+use Rattle.std.specs.Prelude.{Ok, Err}
 use mathlib.Core.Path.{◌≡◌, refl, ◌∙◌}
 use mathlib.Core.List.{List, [], ◌∷◌}
 use Prim.Native.Nat.{◌<◌, ◌≤◌}
 use native.Mathlib.Omega.{arith}
 use lib.ListN.{length}
-use Rattle.ratio.specs.declared.Outcome.TheVariants as O
 use Rattle.ratio.specs.declared.Ratio.{Ratio}
 use Rattle.ratio.specs.declared.Reason.{Reason}
 use Rattle.terms.specs.declared.Answer.{Answer}
@@ -31,11 +32,11 @@ rest-none [] r h = refl
 rest-none (x ∷ l) r h = absurd (omega arith)
 
 module _ (f df a : List Ratio) (q : Division) (e : q ≡ divided_of f a) where
-  pub first-refused : (why : Reason) → q.outcome ≡ O.Refused why → none why ≡ split_by f df a
+  pub first-refused : (why : Reason) → q.outcome ≡ Err why → none why ≡ split_by f df a
   unfolding split_by
   first-refused why o = rw (parts_none q f a why e o)
 
-  module _ (o : q.outcome ≡ O.Done) where
+  module _ (o : q.outcome ≡ no_refusal) where
     abbrev second : List Ratio → Got (List Piece)
     second b = then_got (parts_of df a) (λ r. unless_rest r.rest (rounds (length f) 1 b r.quotient []))
 
@@ -50,10 +51,10 @@ module _ (f df a : List Ratio) (q : Division) (e : q ≡ divided_of f a) where
       second_is : second (terms_of q.quotient) ≡ split_by f df a
       second_is = rest-none (terms_of q.rest) (second (terms_of q.quotient)) h ∙ first-is
 
-      pub second-refused : (why : Reason) → r.outcome ≡ O.Refused why → none why ≡ split_by f df a
+      pub second-refused : (why : Reason) → r.outcome ≡ Err why → none why ≡ split_by f df a
       second-refused why or = rw (parts_none r df a why er or) at second_is
 
-      module _ (or : r.outcome ≡ O.Done) where
+      module _ (or : r.outcome ≡ no_refusal) where
         third-is : unless_rest (terms_of r.rest) (rounds (length f) 1 (terms_of q.quotient) (terms_of r.quotient) []) ≡ split_by f df a
         third-is = rw (parts-got r df a er or) at second_is
 
@@ -74,11 +75,11 @@ share-some f [] h = absurd (omega arith)
 share-some f (x ∷ df) h = refl
 
 module _ (f : List Ratio) (d : Answer) (e : d ≡ answer_of (derived plain f 0)) where
-  pub slope-refused : (why : Reason) → d.outcome ≡ O.Refused why → none why ≡ split_of f
+  pub slope-refused : (why : Reason) → d.outcome ≡ Err why → none why ≡ split_of f
   unfolding split_of
   slope-refused why o = rw (list-none d (derived plain f 0) why e o)
 
-  module _ (o : d.outcome ≡ O.Done) where
+  module _ (o : d.outcome ≡ no_refusal) where
     slope-is : sharing f (terms_of d.poly) ≡ split_of f
     unfolding split_of
     slope-is = rw (list-got d (derived plain f 0) e o)
@@ -90,10 +91,10 @@ module _ (f : List Ratio) (d : Answer) (e : d ≡ answer_of (derived plain f 0))
       shared : then_got (list_from (gcd_of plain f (terms_of d.poly) 0)) (split_by f (terms_of d.poly)) ≡ split_of f
       shared = share-some f (terms_of d.poly) h ∙ slope-is
 
-      pub shared-refused : (why : Reason) → g.outcome ≡ O.Refused why → none why ≡ split_of f
+      pub shared-refused : (why : Reason) → g.outcome ≡ Err why → none why ≡ split_of f
       shared-refused why og = rw (list-none g (gcd_of plain f (terms_of d.poly) 0) why eg og) at shared
 
-      pub shared-done : g.outcome ≡ O.Done → split_by f (terms_of d.poly) (terms_of g.poly) ≡ split_of f
+      pub shared-done : g.outcome ≡ no_refusal → split_by f (terms_of d.poly) (terms_of g.poly) ≡ split_of f
       shared-done og = rw (list-got g (gcd_of plain f (terms_of d.poly) 0) eg og) at shared
 
 -- ---- the whole work
@@ -112,8 +113,8 @@ module _ (f : List Ratio) (some : 0 < length f) (m : Answer) (e : m ≡ answer_o
       go [] h = absurd (omega arith)
       go (x ∷ f) h = refl
 
-  pub monic-refused : (why : Reason) → m.outcome ≡ O.Refused why → none why ≡ square_frees f
+  pub monic-refused : (why : Reason) → m.outcome ≡ Err why → none why ≡ square_frees f
   monic-refused why o = rw (list-none m (monic plain f 0) why e o) at all-is
 
-  pub monic-done : m.outcome ≡ O.Done → found_or (terms_of m.poly) (split_of (terms_of m.poly)) ≡ square_frees f
+  pub monic-done : m.outcome ≡ no_refusal → found_or (terms_of m.poly) (split_of (terms_of m.poly)) ≡ square_frees f
   monic-done o = rw (list-got m (monic plain f 0) e o) at all-is

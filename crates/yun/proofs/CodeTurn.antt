@@ -1,11 +1,12 @@
 -- One round of the loop: each way it ends.
+use Rattle.ratio.specs.Refusal.{no_refusal}
+use Rattle.std.specs.Prelude.{Ok, Err}
 use mathlib.Core.Path.{◌≡◌, refl, sym, ap, subst, ◌∙◌}
 use mathlib.Core.Bool.{true, false}
 use mathlib.Core.List.{List, [], ◌∷◌}
 use Prim.Native.Nat.{ℕ, ◌<◌, ◌≤◌}
 use native.Mathlib.Omega.{arith}
 use lib.ListN.{length}
-use Rattle.ratio.specs.declared.Outcome.TheVariants as O
 use Rattle.ratio.specs.declared.Ratio.{Ratio}
 use Rattle.ratio.specs.declared.Reason.{Reason}
 use Rattle.terms.specs.declared.Poly.{Poly}
@@ -41,11 +42,11 @@ factor-some (x ∷ y ∷ a) h = refl
 -- ---- the last factor
 
 module _ (i : ℕ) (b : List Ratio) (found : List Piece) (m : Answer) (e : m ≡ answer_of (monic plain b 0)) where
-  pub ended-refused : (why : Reason) → m.outcome ≡ O.Refused why → over (none why) ≡ ended i b found
+  pub ended-refused : (why : Reason) → m.outcome ≡ Err why → over (none why) ≡ ended i b found
   unfolding ended
   ended-refused why o = rw (list-none m (monic plain b 0) why e o)
 
-  pub ended-done : m.outcome ≡ O.Done → over (got (pushed (terms_of m.poly) i found)) ≡ ended i b found
+  pub ended-done : m.outcome ≡ no_refusal → over (got (pushed (terms_of m.poly) i found)) ≡ ended i b found
   unfolding ended
   ended-done o = rw (list-got m (monic plain b 0) e o)
 
@@ -66,21 +67,21 @@ on_both [] (x ∷ r) t h j = absurd (omega arith)
 on_both (x ∷ q) r t h j = absurd (omega arith)
 
 module _ (i : ℕ) (b d : List Ratio) (found : List Piece) (a : List Ratio) (m : Answer) (e : m ≡ answer_of (factor_of a)) where
-  pub cut-refused : (why : Reason) → m.outcome ≡ O.Refused why → over (none why) ≡ cut_by i b d found a
+  pub cut-refused : (why : Reason) → m.outcome ≡ Err why → over (none why) ≡ cut_by i b d found a
   unfolding cut_by
   cut-refused why o = rw (list-none m (factor_of a) why e o)
 
-  module _ (o : m.outcome ≡ O.Done) (q : Division) (eq : q ≡ divided_of b a) where
-    pub left-refused : (why : Reason) → q.outcome ≡ O.Refused why → over (none why) ≡ cut_by i b d found a
+  module _ (o : m.outcome ≡ no_refusal) (q : Division) (eq : q ≡ divided_of b a) where
+    pub left-refused : (why : Reason) → q.outcome ≡ Err why → over (none why) ≡ cut_by i b d found a
     unfolding cut_by
     left-refused why oq = rw (list-got m (factor_of a) e o, parts_none q b a why eq oq)
 
-    module _ (oq : q.outcome ≡ O.Done) (r : Division) (er : r ≡ divided_of d a) where
-      pub right-refused : (why : Reason) → r.outcome ≡ O.Refused why → over (none why) ≡ cut_by i b d found a
+    module _ (oq : q.outcome ≡ no_refusal) (r : Division) (er : r ≡ divided_of d a) where
+      pub right-refused : (why : Reason) → r.outcome ≡ Err why → over (none why) ≡ cut_by i b d found a
       unfolding cut_by
       right-refused why or = rw (list-got m (factor_of a) e o, parts-got q b a eq oq, parts_none r d a why er or)
 
-      module _ (or : r.outcome ≡ O.Done) where
+      module _ (or : r.outcome ≡ no_refusal) where
         abbrev goes : Turn
         goes = on (pushed (terms_of m.poly) i found) (terms_of q.quotient) (terms_of r.quotient)
 
@@ -100,13 +101,13 @@ module _ (i : ℕ) (b d : List Ratio) (found : List Piece) (a : List Ratio) (m :
 -- ---- what the code hands back
 
 module _ (t : ℕ → List Piece → Turn) (r : Round) where
-  pub stops : (why : Reason) → r ≡ over_with (O.Refused why) false (poly_of []) → ((i : ℕ) (found : List Piece) → over (none why) ≡ t i found) → Turns t r
+  pub stops : (why : Reason) → r ≡ over_with (Err why) false (poly_of []) → ((i : ℕ) (found : List Piece) → over (none why) ≡ t i found) → Turns t r
   stops why e h = subst (Turns t) (sym e) (record { is = h; padded = refl })
 
-  pub stays : r ≡ over_with O.Done true (poly_of []) → ((i : ℕ) (found : List Piece) → over (got []) ≡ t i found) → Turns t r
+  pub stays : r ≡ over_with no_refusal true (poly_of []) → ((i : ℕ) (found : List Piece) → over (got []) ≡ t i found) → Turns t r
   stays e h = subst (Turns t) (sym e) (record { is = h; padded = refl })
 
-  pub lasts : (p : Poly) → r ≡ over_with O.Done false p → p ≡ poly_of (terms_of p) → ((i : ℕ) (found : List Piece) → over (got (pushed (terms_of p) i found)) ≡ t i found) → Turns t r
+  pub lasts : (p : Poly) → r ≡ over_with no_refusal false p → p ≡ poly_of (terms_of p) → ((i : ℕ) (found : List Piece) → over (got (pushed (terms_of p) i found)) ≡ t i found) → Turns t r
   lasts p e q h = subst (Turns t) (sym e) (record { is = h; padded = q })
 
 -- ---- the round
@@ -137,14 +138,14 @@ module _ (i : ℕ) (b c : List Ratio) (found : List Piece) (h : 2 ≤ length b) 
       go (x ∷ []) h = absurd (omega arith)
       go (x ∷ y ∷ b) h = refl
 
-  pub slope-refused : (why : Reason) → s.outcome ≡ O.Refused why → over (none why) ≡ turn_of i b c found
+  pub slope-refused : (why : Reason) → s.outcome ≡ Err why → over (none why) ≡ turn_of i b c found
   slope-refused why o = rw (turn_is, list-none s (derived plain b 0) why e o)
 
-  module _ (o : s.outcome ≡ O.Done) (d : Answer) (ed : d ≡ answer_of (zipped plain minus c (terms_of s.poly) 0)) where
-    pub difference-refused : (why : Reason) → d.outcome ≡ O.Refused why → over (none why) ≡ turn_of i b c found
+  module _ (o : s.outcome ≡ no_refusal) (d : Answer) (ed : d ≡ answer_of (zipped plain minus c (terms_of s.poly) 0)) where
+    pub difference-refused : (why : Reason) → d.outcome ≡ Err why → over (none why) ≡ turn_of i b c found
     difference-refused why od = rw (turn_is, list-got s (derived plain b 0) e o, list-none d (zipped plain minus c (terms_of s.poly) 0) why ed od)
 
-    module _ (od : d.outcome ≡ O.Done) where
+    module _ (od : d.outcome ≡ no_refusal) where
       turn-met : met i b found (terms_of d.poly) ≡ turn_of i b c found
       turn-met = rw (turn_is, list-got s (derived plain b 0) e o, list-got d (zipped plain minus c (terms_of s.poly) 0) ed od)
 
@@ -152,8 +153,8 @@ module _ (i : ℕ) (b c : List Ratio) (found : List Piece) (h : 2 ≤ length b) 
       turn_last k = met-none i b found (terms_of d.poly) k ∙ turn-met
 
       module _ (some : 0 < length (terms_of d.poly)) (g : Answer) (eg : g ≡ answer_of (gcd_of plain b (terms_of d.poly) 0)) where
-        pub gcd-refused : (why : Reason) → g.outcome ≡ O.Refused why → over (none why) ≡ turn_of i b c found
+        pub gcd-refused : (why : Reason) → g.outcome ≡ Err why → over (none why) ≡ turn_of i b c found
         gcd-refused why og = sym (met_some i b found (terms_of d.poly) some ∙ ap (λ z. or_over z (cut_by i b (terms_of d.poly) found)) (list-none g (gcd_of plain b (terms_of d.poly) 0) why eg og)) ∙ turn-met
 
-        pub gcd-done : g.outcome ≡ O.Done → cut_by i b (terms_of d.poly) found (terms_of g.poly) ≡ turn_of i b c found
+        pub gcd-done : g.outcome ≡ no_refusal → cut_by i b (terms_of d.poly) found (terms_of g.poly) ≡ turn_of i b c found
         gcd-done og = sym (met_some i b found (terms_of d.poly) some ∙ ap (λ z. or_over z (cut_by i b (terms_of d.poly) found)) (list-got g (gcd_of plain b (terms_of d.poly) 0) eg og)) ∙ turn-met

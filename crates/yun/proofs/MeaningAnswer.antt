@@ -1,4 +1,6 @@
 -- An answered decomposition is one: monic factors whose powers multiply to the polynomial over its leading coefficient. A refused one is a step's refusal.
+use Rattle.ratio.specs.Refusal.{no_refusal}
+use Rattle.std.specs.Prelude.{Ok, Err}
 use mathlib.Core.Path.{◌≡◌, refl, sym, ap, ap₂, subst, ◌∙◌}
 use mathlib.Core.List.{List, [], ◌∷◌}
 use Prim.Native.Nat.{ℕ, suc, ◌≤◌}
@@ -14,7 +16,6 @@ use Rattle.algebra.proofs.PolyDomain.{deg-scaled}
 use Rattle.algebra.proofs.Monic.{MonicP, monic-deg, monic-not-nil}
 use Rattle.algebra.proofs.Lists.{◌*P◌, poly-empty, poly-at, poly-equal, poly-scaled}
 use Rattle.algebra.proofs.ListWords.{degree-to, degree-from}
-use Rattle.ratio.specs.declared.Outcome.TheVariants as O
 use Rattle.ratio.specs.declared.Ratio.{Ratio}
 use Rattle.ratio.specs.declared.Reason.{Reason}
 use Rattle.ratio.specs.declared.Reason.TheVariants.{CoeffOverflow}
@@ -141,21 +142,21 @@ decomposition-refuses (x ∷ f) c why e = then-over (list_from (monic plain (x �
 -- ---- what is handed back
 
 module _ (f : List Ratio) (c : Canonical f) (r : Decomposition) where
-  answered-by : (s : Got (List Piece)) → square_frees f ≡ s → r ≡ decomposition_of s → (f ≡ [] → ⊥) → r.outcome ≡ O.Done → Decomposed f (pieces_of r)
+  answered-by : (s : Got (List Piece)) → square_frees f ≡ s → r ≡ decomposition_of s → (f ≡ [] → ⊥) → r.outcome ≡ no_refusal → Decomposed f (pieces_of r)
   answered-by (got l) p e some o = subst (Decomposed f) (sym (ap pieces_of e ∙ found-pieces l)) (decomposition-means f c some l p)
   answered-by (none why) p e some o = done_refused r.outcome why o (ap (λ (x : Decomposition). x.outcome) e)
 
-  refused-by : (s : Got (List Piece)) → square_frees f ≡ s → r ≡ decomposition_of s → (why : Reason) → r.outcome ≡ O.Refused why → (why ≡ CoeffOverflow) × (pieces_of r ≡ [])
+  refused-by : (s : Got (List Piece)) → square_frees f ≡ s → r ≡ decomposition_of s → (why : Reason) → r.outcome ≡ Err why → (why ≡ CoeffOverflow) × (pieces_of r ≡ [])
   refused-by (got l) p e why o = done_refused r.outcome why (ap (λ (x : Decomposition). x.outcome) e) o
   refused-by (none w) p e why o =
       let same : w ≡ why = cc in
       (sym same ∙ decomposition-refuses f c w p, ap pieces_of e)
 
   module _ (e : r ≡ decomposition_of (square_frees f)) where
-    pub answered-means : (f ≡ [] → ⊥) → r.outcome ≡ O.Done → Decomposed f (pieces_of r)
+    pub answered-means : (f ≡ [] → ⊥) → r.outcome ≡ no_refusal → Decomposed f (pieces_of r)
     answered-means = answered-by (square_frees f) refl e
 
-    pub refused-means : (why : Reason) → r.outcome ≡ O.Refused why → (why ≡ CoeffOverflow) × (pieces_of r ≡ [])
+    pub refused-means : (why : Reason) → r.outcome ≡ Err why → (why ≡ CoeffOverflow) × (pieces_of r ≡ [])
     refused-means = refused-by (square_frees f) refl e
 
 -- zero has no factors

@@ -1,7 +1,6 @@
 -- Document 01, "what must change shape": the outcome beside an array by value of 32 factors with their multiplicities. A refused one is empty.
-use Rattle.std.specs.Prelude.{◌≡◌, Bool, false, cond, List, [], ◌∷◌, ◌++◌, ℕ, ◌-◌, ◌<◌, length, take, replicate}
-use Rattle.ratio.specs.declared.Outcome.{Outcome}
-use Rattle.ratio.specs.declared.Outcome.TheVariants as O
+use Rattle.std.specs.Prelude.{◌≡◌, Bool, false, cond, List, [], ◌∷◌, ◌++◌, ℕ, ◌-◌, ◌<◌, length, take, replicate, Ok, Err}
+use Rattle.ratio.specs.Refusal.{Outcome, no_refusal}
 use Rattle.ratio.specs.declared.Ratio.{Ratio}
 use Rattle.ratio.specs.declared.Reason.{Reason}
 use Rattle.terms.specs.declared.Poly.{Poly}
@@ -21,10 +20,10 @@ abbrev pub pieces_of : Decomposition → List Piece
 pieces_of d = take d.len d.pieces
 
 abbrev pub found_all : List Piece → Decomposition
-found_all l = record { outcome = O.Done; pieces = l ++ replicate (32 - length l) no_piece; len = length l }
+found_all l = record { outcome = no_refusal; pieces = l ++ replicate (32 - length l) no_piece; len = length l }
 
 abbrev pub refused_for : Reason → Decomposition
-refused_for why = record { outcome = O.Refused why; pieces = replicate 32 no_piece; len = 0 }
+refused_for why = record { outcome = Err why; pieces = replicate 32 no_piece; len = 0 }
 
 abbrev pub decomposition_of : Got (List Piece) → Decomposition
 decomposition_of (got l) = found_all l
@@ -40,8 +39,8 @@ abbrev pub over_with : Outcome → Bool → Poly → Round
 over_with o w p = record { outcome = o; whole = w; more = false; factor = p; b = poly_of []; c = poly_of [] }
 
 abbrev pub unless_over : Outcome → Turn → Turn
-unless_over O.Done t = t
-unless_over (O.Refused why) t = over (none why)
+unless_over (Ok _) t = t
+unless_over (Err why) t = over (none why)
 
 -- how round i ends that comes to r, after these pieces
 abbrev pub turn_from : ℕ → Round → List Piece → Turn

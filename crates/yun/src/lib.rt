@@ -2,15 +2,15 @@
 // Nothing here tests whether a polynomial is canonical; the crate `factor` stands in front of this and makes the test once.
 #![tactic(auto)]
 
-ghost use Rattle.std.specs.Prelude.{◌≡◌, true, false, [], length};
-ghost use Rattle.ratio.specs.declared.Outcome.TheVariants as O;
+ghost use Rattle.ratio.specs.Refusal.{no_refusal};
+ghost use Rattle.std.specs.Prelude.{◌≡◌, true, false, [], length, Ok, Err};
 ghost use Rattle.terms.specs.Poly.{terms_of, poly_of};
 ghost use Rattle.yun.specs.Answer.{no_piece, refused_for, found_all, decomposition_of, over_with, Turns, piece_for, room_for};
 ghost use Rattle.yun.specs.Round.{pushed, factor_of, ended, cut_by, turn_of};
 ghost use Rattle.yun.specs.Yun.{rounds as rounds_of, split_by, split_of, found_or, square_frees};
 ghost use Rattle.terms.specs.Answer.{answer_of};
 
-use ratio::{Outcome, Reason};
+use ratio::Reason;
 use terms::{Answer, Poly};
 
 // A factor and how often it occurs.
@@ -23,7 +23,7 @@ pub struct Piece {
 // The factors, or why there are none.
 #[derive(Clone, Copy)]
 pub struct Decomposition {
-    pub outcome: Outcome,
+    pub outcome: Result<(), Reason>,
     pub pieces: [Piece; 32],
     pub len: usize,
 }
@@ -32,7 +32,7 @@ pub struct Decomposition {
 // with b and c for the next round if there is more to do. The list of factors stays in the loop, so that no round copies it.
 #[derive(Clone, Copy)]
 struct Round {
-    outcome: Outcome,
+    outcome: Result<(), Reason>,
     whole: bool,
     more: bool,
     factor: Poly,
@@ -53,7 +53,7 @@ pub fn refused(why: Reason) -> Decomposition
     ensures is { result ≡ refused_for why }
 {
     Decomposition {
-        outcome: Outcome::Refused(why),
+        outcome: Err(why),
         pieces: [no_piece(); 32],
         len: 0,
     }
@@ -63,7 +63,7 @@ pub fn nothing() -> Decomposition
     ensures is { result ≡ found_all [] }
 {
     Decomposition {
-        outcome: Outcome::Done,
+        outcome: Ok(()),
         pieces: [no_piece(); 32],
         len: 0,
     }
@@ -101,7 +101,7 @@ fn whole(f: Poly) -> Decomposition
 }
 
 // The loop ends.
-fn over(outcome: Outcome, whole: bool, factor: Poly) -> Round
+fn over(outcome: Result<(), Reason>, whole: bool, factor: Poly) -> Round
     ensures { result ≡ over_with outcome whole factor }
 {
     Round {
@@ -115,15 +115,15 @@ fn over(outcome: Outcome, whole: bool, factor: Poly) -> Round
 }
 
 fn stop(why: Reason) -> Round
-    ensures { result ≡ over_with (O.Refused why) false (poly_of []) }
+    ensures { result ≡ over_with (Err why) false (poly_of []) }
 {
-    over(Outcome::Refused(why), false, Poly::zero())
+    over(Err(why), false, Poly::zero())
 }
 
 fn stay_whole() -> Round
-    ensures { result ≡ over_with O.Done true (poly_of []) }
+    ensures { result ≡ over_with no_refusal true (poly_of []) }
 {
-    over(Outcome::Done, true, Poly::zero())
+    over(Ok(()), true, Poly::zero())
 }
 
 // No difference is left: b, scaled, is the last factor.
@@ -132,11 +132,11 @@ fn end(b: Poly) -> Round
 {
     let m = remainders::monic(b);
     let o = m.outcome;
-    if let Outcome::Refused(why) = o {
+    if let Err(why) = o {
         return stop(why);
     }
     let p = m.poly;
-    over(Outcome::Done, false, p)
+    over(Ok(()), false, p)
 }
 
 // a, scaled, where its degree is at least 1; else nothing.
@@ -155,17 +155,17 @@ fn cut(b: Poly, d: Poly, a: Poly) -> Round
 {
     let m = factor_of(a);
     let om = m.outcome;
-    if let Outcome::Refused(why) = om {
+    if let Err(why) = om {
         return stop(why);
     }
     let q = remainders::divide(b, a);
     let oq = q.outcome;
-    if let Outcome::Refused(why) = oq {
+    if let Err(why) = oq {
         return stop(why);
     }
     let r = remainders::divide(d, a);
     let or = r.outcome;
-    if let Outcome::Refused(why) = or {
+    if let Err(why) = or {
         return stop(why);
     }
     let rest_b = q.rest;
@@ -180,7 +180,7 @@ fn cut(b: Poly, d: Poly, a: Poly) -> Round
     let next_b = q.quotient;
     let next_c = r.quotient;
     Round {
-        outcome: Outcome::Done,
+        outcome: Ok(()),
         whole: false,
         more: true,
         factor,
@@ -194,17 +194,17 @@ fn turn(b: Poly, c: Poly) -> Round
     ensures { Turns (λ i. turn_of i (terms_of b) (terms_of c)) result }
 {
     if b.length() < 2 {
-        return over(Outcome::Done, false, Poly::zero());
+        return over(Ok(()), false, Poly::zero());
     }
     let db = b.differentiate();
     let ob = db.outcome;
-    if let Outcome::Refused(why) = ob {
+    if let Err(why) = ob {
         return stop(why);
     }
     let slope = db.poly;
     let diff = c.zip(slope, true);
     let od = diff.outcome;
-    if let Outcome::Refused(why) = od {
+    if let Err(why) = od {
         return stop(why);
     }
     let d = diff.poly;
@@ -213,7 +213,7 @@ fn turn(b: Poly, c: Poly) -> Round
     }
     let g = remainders::greatest(b, d);
     let og = g.outcome;
-    if let Outcome::Refused(why) = og {
+    if let Err(why) = og {
         return stop(why);
     }
     let a = g.poly;
@@ -233,7 +233,7 @@ fn rounds(f: Poly, b: Poly, c: Poly) -> Decomposition
     while i < n {
         let t = turn(u, v);
         let o = t.outcome;
-        if let Outcome::Refused(why) = o {
+        if let Err(why) = o {
             return refused(why);
         }
         if t.whole {
@@ -263,7 +263,7 @@ fn split_by(f: Poly, df: Poly, a: Poly) -> Decomposition
 {
     let q = remainders::divide(f, a);
     let oq = q.outcome;
-    if let Outcome::Refused(why) = oq {
+    if let Err(why) = oq {
         return refused(why);
     }
     let rest_b = q.rest;
@@ -272,7 +272,7 @@ fn split_by(f: Poly, df: Poly, a: Poly) -> Decomposition
     }
     let r = remainders::divide(df, a);
     let or = r.outcome;
-    if let Outcome::Refused(why) = or {
+    if let Err(why) = or {
         return refused(why);
     }
     let rest_c = r.rest;
@@ -291,7 +291,7 @@ fn split(f: Poly) -> Decomposition
 {
     let d = f.differentiate();
     let od = d.outcome;
-    if let Outcome::Refused(why) = od {
+    if let Err(why) = od {
         return refused(why);
     }
     let df = d.poly;
@@ -300,7 +300,7 @@ fn split(f: Poly) -> Decomposition
     }
     let g = remainders::greatest(f, df);
     let og = g.outcome;
-    if let Outcome::Refused(why) = og {
+    if let Err(why) = og {
         return refused(why);
     }
     let a = g.poly;
@@ -316,7 +316,7 @@ pub fn decompose(f: Poly) -> Decomposition
     }
     let m = remainders::monic(f);
     let om = m.outcome;
-    if let Outcome::Refused(why) = om {
+    if let Err(why) = om {
         return refused(why);
     }
     let p = m.poly;

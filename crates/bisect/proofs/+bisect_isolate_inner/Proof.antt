@@ -73,13 +73,13 @@ counted : (t : ℕ) (z : lts.Start (calls t) (at-t t) inner.Post) → z.args.a.c
 counted t z = ap₂ (λ (x y : End). x.changes - y.changes) z.requires.1.1 z.requires.1.2
 
 enum_told : (t : ℕ) → lts.Need-enum_told-1 (calls t) (at-t t) inner.Post
-enum_told t c = c.in-Refused-1.keys1
+enum_told t c = c.in-Err-1.keys1
 
-returns : (t : ℕ) → lts.Need-returns-in-Refused (calls t) (at-t t) inner.Post
+returns : (t : ℕ) → lts.Need-returns-in-Err (calls t) (at-t t) inner.Post
 returns t c =
     let z = c in
     let s = z.args in
-    kept-refused s.found z.requires.1.0 _ (λ l. inner_of s.depth (rows t z.before.before.before) s.a.at s.b.at s.tol l) c.in-Refused.is
+    kept-refused s.found z.requires.1.0 _ (λ l. inner_of s.depth (rows t z.before.before.before) s.a.at s.b.at s.tol l) c.in-Err.is
 
 enum-told-2 : (t : ℕ) → lts.Need-enum_told-in_default (calls t) (at-t t) inner.Post
 enum-told-2 t c = c.in_default-1.keys2

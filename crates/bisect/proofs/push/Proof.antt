@@ -8,13 +8,13 @@ use Rattle.bisect.proofs.push.Statement.{statement}
 use Rattle.bisect.proofs.push.Tie as tie
 
 enum_told : tie.Need-enum_told-1
-enum_told c = c.in-Refused-1.keys1
+enum_told c = c.in-Err-1.keys1
 
-returns : tie.Need-returns-in-Refused
+returns : tie.Need-returns-in-Err
 returns c =
     let z = c in
     let s = z.args in
-    kept-refused s.found z.requires _ (λ l. pushed s.a s.b l) c.in-Refused.is
+    kept-refused s.found z.requires _ (λ l. pushed s.a s.b l) c.in-Err.is
 
 enum-told-2 : tie.Need-enum_told-in_default
 enum-told-2 c = c.in_default-1.keys2

@@ -13,14 +13,14 @@ enum-known-o c = search rules
 number-requires : tie.Need-number-requires
 number-requires c κs = search rules
 
-returns : tie.Need-returns-in-Done
+returns : tie.Need-returns-in-Ok
 returns c = search rules
 
 returns-2 : tie.Need-returns-then-number-eq4
-returns-2 c = gate-long _ _ c.number.result c.number.ensures c.in-Refused.is c.if-number-eq4.true
+returns-2 c = gate-long _ _ c.number.result c.number.ensures c.in-Err.is c.if-number-eq4.true
 
 returns-3 : tie.Need-returns-else-number-eq4
-returns-3 c = gate-bad _ _ c.number.result c.number.ensures c.in-Refused.is c.if-number-eq4.false
+returns-3 c = gate-bad _ _ c.number.result c.number.ensures c.in-Err.is c.if-number-eq4.false
 
 pub gate_spec : {M : Type 1} → statement M
 gate_spec = tie.close (tie.spec enum_told enum-known-o number-requires returns returns-2 returns-3)

@@ -18,13 +18,13 @@ number-requires : tie.Need-number-requires
 number-requires c κs = search rules
 
 add-result : tie.Need-overflow_add-result
-add-result c = omega (arith, c.number.ensures, number-few c.in-Refused.why)
+add-result c = omega (arith, c.number.ensures, number-few c.in-Err.why)
 
-returns : tie.Need-returns-in-Done
-returns c = number-done _ _ c.in-Done.is
+returns : tie.Need-returns-in-Ok
+returns c = number-done _ _ c.in-Ok.is
 
-returns-2 : tie.Need-returns-in-Refused
-returns-2 c = number-refused c.args.o _ c.number.result c.in-Refused.why c.in-Refused.is c.number.ensures
+returns-2 : tie.Need-returns-in-Err
+returns-2 c = number-refused c.args.o _ c.number.result c.in-Err.why c.in-Err.is c.number.ensures
 
 pub number_spec : {M : Type 1} → statement M
 number_spec =

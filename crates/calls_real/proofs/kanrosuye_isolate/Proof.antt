@@ -1,6 +1,6 @@
 -- `calls_real::kanrosuye_isolate` meets its contract.
 use mathlib.Core.Path.{refl, sym, ap, ◌∙◌}
-use Rattle.ratio.specs.declared.Outcome.{Outcome}
+use Rattle.ratio.specs.Refusal.{Outcome}
 use Rattle.isolate.specs.declared.Isolation.{Isolation}
 use Rattle.calls.specs.Call.{number_told}
 use Rattle.calls.proofs.Telling.{told-number, wrote, kept}
@@ -21,7 +21,7 @@ number-requires c κs = tt
 enum-known-o : tie.Need-enum_known-o
 enum-known-o c = search rules
 
-number-requires-2 : tie.Need-number-requires-in-Refused
+number-requires-2 : tie.Need-number-requires-in-Err
 number-requires-2 c κs = tt
 
 -- what the model answers
@@ -31,28 +31,28 @@ model s = isolated_of s.args.an.now s.args.ad.now s.args.lo s.args.hi s.args.tol
 abbrev out : Isolation → Outcome
 out r = r.outcome
 
-returns : tie.Need-returns-in-Done
+returns : tie.Need-returns-in-Ok
 returns c =
     let told = c in
     let m = told in
     let s = m in
     let t = m.isolated-r.result in
     let e = m.isolated-r.ensures in
-    let h = told.in-Done.is in (
+    let h = told.in-Ok.is in (
       told-number out t (model s.before.before.before.before) e (λ (r : Isolation). r.len) c.number.result c.number.ensures,
       wrote out t (model s.before.before.before.before) e (λ (r : Isolation). r.roots) s.args.out.now t.roots h refl,
     )
 
-returns-2 : tie.Need-returns-in-Refused
+returns-2 : tie.Need-returns-in-Err
 returns-2 c =
     let k = c in
     let m = k in
     let s = m in
     let t = m.isolated-r.result in
     let e = m.isolated-r.ensures in
-    let w = k.in-Refused.why in
-    let h = k.in-Refused.is in (
-      told-number out t (model s.before.before.before) e (λ (r : Isolation). r.len) c.number-in-Refused.result (c.number-in-Refused.ensures ∙ ap (λ (o : Outcome). number_told o t.len) (sym h)),
+    let w = k.in-Err.why in
+    let h = k.in-Err.is in (
+      told-number out t (model s.before.before.before) e (λ (r : Isolation). r.len) c.number-in-Err.result (c.number-in-Err.ensures ∙ ap (λ (o : Outcome). number_told o t.len) (sym h)),
       kept out t (model s.before.before.before) e s.args.out.now (model s.before.before.before).roots w h,
     )
 

@@ -1,7 +1,7 @@
 -- `calls_real::kanrosuye_to_lowered` meets its contract.
 use mathlib.Core.Path.{◌≡◌, refl, ap, ap₂, ◌∙◌}
 use Prim.Native.Nat.{ℕ}
-use Rattle.ratio.specs.declared.Outcome.{Outcome}
+use Rattle.ratio.specs.Refusal.{Outcome}
 use Rattle.terms.specs.declared.Answer.{Answer}
 use Rattle.poly.specs.Door.{both}
 use Rattle.poly.proofs.Doors.{open-entered, shut-entered}

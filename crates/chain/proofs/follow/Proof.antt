@@ -48,16 +48,16 @@ next-requires : tie.Need-next-r-requires invariant-loop decreases-loop
 next-requires c κs = tt
 
 enum-known-o : tie.Need-enum_known-o invariant-loop decreases-loop
-enum-known-o c = c.in-Refused-1.keys1
+enum-known-o c = c.in-Err-1.keys1
 
 refused-requires : tie.Need-refused-requires invariant-loop decreases-loop
 refused-requires c κs = tt
 
-returns : tie.Need-returns-in-Refused invariant-loop decreases-loop
+returns : tie.Need-returns-in-Err invariant-loop decreases-loop
 returns c =
     let l = c in
     let s = l.args in
-    c.refused.ensures ∙ going-refused (terms_of s.p) (terms_of s.d) l.loop-a.out (terms_of l.loop-a.a) l.loop-a.b l.loop-a.invariant (omega (arith, c.length.ensures)) c.next-r.result c.next-r.ensures _ c.in-Refused.is
+    c.refused.ensures ∙ going-refused (terms_of s.p) (terms_of s.d) l.loop-a.out (terms_of l.loop-a.a) l.loop-a.b l.loop-a.invariant (omega (arith, c.length.ensures)) c.next-r.result c.next-r.ensures _ c.in-Err.is
 
 enum_told : tie.Need-enum_told-1 invariant-loop decreases-loop
 enum_told c = c.in_default-1.keys2

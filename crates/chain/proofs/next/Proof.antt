@@ -8,17 +8,17 @@ divide-requires : tie.Need-divide-d-requires
 divide-requires c κs = tt
 
 enum-known-o : tie.Need-enum_known-o
-enum-known-o c = c.in-Refused-1.keys1
+enum-known-o c = c.in-Err-1.keys1
 
 refused-requires : tie.Need-refused-requires
 refused-requires c κs = tt
 
-returns : tie.Need-returns-in-Refused
+returns : tie.Need-returns-in-Err
 returns c =
     let o = c in
     let d = o in
     let s = d.args in
-    next-refused (terms_of s.a) (terms_of s.b) d.divide-d.result d.divide-d.ensures _ c.refused.result o.in-Refused.is c.refused.ensures
+    next-refused (terms_of s.a) (terms_of s.b) d.divide-d.result d.divide-d.ensures _ c.refused.result o.in-Err.is c.refused.ensures
 
 enum_told : tie.Need-enum_told-1
 enum_told c = c.in_default-1.keys2

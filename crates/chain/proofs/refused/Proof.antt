@@ -1,7 +1,7 @@
 -- `chain::refused` meets its contract.
+use Rattle.std.specs.Prelude.{Err}
 use mathlib.Core.Path.{ap}
 use lib.ListN.{replicate}
-use Rattle.ratio.specs.declared.Outcome.TheVariants as O
 use Rattle.terms.specs.declared.Poly.{Poly}
 use Rattle.chain.specs.declared.Chain.{Chain}
 use Rattle.chain.proofs.refused.Statement.{statement}
@@ -11,7 +11,7 @@ zero-requires : tie.Need-zero-requires
 zero-requires c κs = tt
 
 returns : tie.Need-returns
-returns c = ap {B = Chain} (λ (p : Poly). record { outcome = O.Refused c.args.why; polys = replicate 32 p; len = 0 }) c.zero.ensures
+returns c = ap {B = Chain} (λ (p : Poly). record { outcome = Err c.args.why; polys = replicate 32 p; len = 0 }) c.zero.ensures
 
 pub refused_spec : {M : Type 1} → statement M
 refused_spec = tie.close (tie.spec zero-requires returns)

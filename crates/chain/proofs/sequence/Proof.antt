@@ -30,19 +30,19 @@ differentiate-requires : tie.Need-differentiate-d-requires
 differentiate-requires c κs = tt
 
 enum-known-o : tie.Need-enum_known-o
-enum-known-o c = c.in-Refused-1.keys1
+enum-known-o c = c.in-Err-1.keys1
 
 refused-requires : tie.Need-refused-requires
 refused-requires c κs = tt
 
-returns-2 : tie.Need-returns-in-Refused
+returns-2 : tie.Need-returns-in-Err
 returns-2 c =
     let o = c in
     let d = o in
     let l = d in
     let n = l in
     let s = n.args in
-    c.refused.ensures ∙ sequence-refused (terms_of s.p) n.normalise-f.result n.normalise-f.ensures (omega (arith, l.length.ensures)) d.differentiate-d.result d.differentiate-d.ensures _ o.in-Refused.is
+    c.refused.ensures ∙ sequence-refused (terms_of s.p) n.normalise-f.result n.normalise-f.ensures (omega (arith, l.length.ensures)) d.differentiate-d.result d.differentiate-d.ensures _ o.in-Err.is
 
 enum_told : tie.Need-enum_told-1
 enum_told c = c.in_default-1.keys2

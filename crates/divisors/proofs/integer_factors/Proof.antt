@@ -1,11 +1,12 @@
 -- `divisors::integer_factors` meets its contract: it goes by the cases of `listing_of`, which keeps the promise.
+use Rattle.ratio.specs.Refusal.{no_refusal}
+use Rattle.std.specs.Prelude.{Ok}
 use mathlib.Core.Path.{◌≡◌, sym, ap, ap₂, ◌∙◌}
 use Prim.Native.Nat.{ℕ, ◌+◌}
 use native.Mathlib.Omega.{arith}
 use borrow.Author.Rules.{rules}
 use mathlib.Core.List.{List}
 use lib.IntN.{nat_abs}
-use Rattle.ratio.specs.declared.Outcome.TheVariants.{Done}
 use Rattle.divisors.specs.declared.Listing.{Listing}
 use Rattle.divisors.specs.Marks.{marks_of}
 use mir.Facts.{to_z-of_z}
@@ -16,7 +17,7 @@ use Rattle.divisors.proofs.integer_factors.Statement.{statement}
 use Rattle.divisors.proofs.integer_factors.Tie as tie
 
 abbrev done : ℕ → List ℕ → Listing
-done size marks = record { outcome = Done; size = size; marks = marks }
+done size marks = record { outcome = no_refusal; size = size; marks = marks }
 
 -- the size that the code tests is that of n
 size : (c : tie.After-magnitude-size) → c.magnitude-size.result ≡ nat_abs c.args.n

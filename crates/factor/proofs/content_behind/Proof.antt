@@ -1,7 +1,7 @@
 -- `factor::content_behind` meets its contract.
+use Rattle.std.specs.Prelude.{Err}
 use mathlib.Core.Path.{refl}
 use borrow.Author.Rules.{rules}
-use Rattle.ratio.specs.declared.Step.TheVariants as S
 use Rattle.poly.proofs.Doors.{open-entered, shut-entered}
 use Rattle.factor.proofs.Works.{content-got, content-none}
 use Rattle.factor.proofs.content_behind.Statement.{statement}
@@ -23,13 +23,13 @@ returns : tie.Need-returns-in_default-content
 returns c =
     let k = c in
     let s = k.args in
-    open-entered s.d _ refl k.in-Open.is S.Refused _ _ (content-none s.p k.content.result k.content.ensures.0 _ c.in_default-content.is)
+    open-entered s.d _ refl k.in-Open.is Err _ _ (content-none s.p k.content.result k.content.ensures.0 _ c.in_default-content.is)
 
 returns-2 : tie.Need-returns-in-Open
 returns-2 c =
     let k = c in
     let s = k.args in
-    open-entered s.d _ refl k.in-Open.is S.Refused _ _ (content-got s.p k.content.result k.content.ensures.0 _ c.in-Done.is)
+    open-entered s.d _ refl k.in-Open.is Err _ _ (content-got s.p k.content.result k.content.ensures.0 _ c.in-Ok.is)
 
 reason-requires : tie.Need-reason-requires
 reason-requires c κs = tt
@@ -37,7 +37,7 @@ reason-requires c κs = tt
 returns-3 : tie.Need-returns
 returns-3 c =
     let s = c.args in
-    shut-entered s.d _ refl c.in_default.in_default-own.keys2 c.reason.result c.reason.ensures S.Refused _ _ refl
+    shut-entered s.d _ refl c.in_default.in_default-own.keys2 c.reason.result c.reason.ensures Err _ _ refl
 
 pub content_behind_spec : {M : Type 1} → statement M
 content_behind_spec =

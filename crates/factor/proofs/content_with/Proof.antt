@@ -7,10 +7,10 @@ use Rattle.factor.proofs.content_with.Tie as tie
 enum_told : tie.Need-enum_told-1
 enum_told c = search rules
 
-returns : tie.Need-returns-in-Refused
+returns : tie.Need-returns-in-Err
 returns c =
     let s = c.args in
-    with-refused s.o s.c _ c.in-Refused.is
+    with-refused s.o s.c _ c.in-Err.is
 
 enum-told-2 : tie.Need-enum_told-in_default
 enum-told-2 c = search rules
@@ -31,7 +31,7 @@ returns-3 : tie.Need-returns
 returns-3 c =
     let t = c in
     let s = t.args in
-    with-content s.o s.c t.in_default.is _ c.in-Done.is
+    with-content s.o s.c t.in_default.is _ c.in-Ok.is
 
 pub content_with_spec : {M : Type 1} → statement M
 content_with_spec =

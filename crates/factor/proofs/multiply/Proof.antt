@@ -47,12 +47,12 @@ enum-known-o c = search rules
 refused-requires : tie.Need-refused-requires invariant-loop decreases-loop
 refused-requires c κs = tt
 
-returns : tie.Need-returns-in-Refused invariant-loop decreases-loop
+returns : tie.Need-returns-in-Err invariant-loop decreases-loop
 returns c =
     let m = c in
     let l = m in
     let s = l.args in
-    c.refused.ensures ∙ building-over (factors_in s.r) (trim (s.r.content ∷ [])) l.loop-i.i l.loop-i.now no_piece (omega arith) l.loop-i.invariant.3 _ (read-terms s.r.len s.r.pieces l.loop-i.i _ no_piece (omega arith)) m.raise-a.result m.raise-a.ensures _ c.in-Refused.is
+    c.refused.ensures ∙ building-over (factors_in s.r) (trim (s.r.content ∷ [])) l.loop-i.i l.loop-i.now no_piece (omega arith) l.loop-i.invariant.3 _ (read-terms s.r.len s.r.pieces l.loop-i.i _ no_piece (omega arith)) m.raise-a.result m.raise-a.ensures _ c.in-Err.is
 
 enum_told : tie.Need-enum_told-1 invariant-loop decreases-loop
 enum_told c = search rules

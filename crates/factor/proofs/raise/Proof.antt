@@ -28,12 +28,12 @@ enum-known-o c = search rules
 refused-requires : tie.Need-refused-requires invariant-loop decreases-loop
 refused-requires c κs = tt
 
-returns : tie.Need-returns-in-Refused invariant-loop decreases-loop
+returns : tie.Need-returns-in-Err invariant-loop decreases-loop
 returns c =
     let m = c in
     let l = m in
     let s = l.args in
-    c.refused.ensures ∙ raising-over s.times (terms_of s.q) (terms_of s.acc) l.loop-i.i l.loop-i.now (omega arith) l.loop-i.invariant.1 m.times-a.result m.times-a.ensures _ c.in-Refused.is
+    c.refused.ensures ∙ raising-over s.times (terms_of s.q) (terms_of s.acc) l.loop-i.i l.loop-i.now (omega arith) l.loop-i.invariant.1 m.times-a.result m.times-a.ensures _ c.in-Err.is
 
 enum_told : tie.Need-enum_told-1 invariant-loop decreases-loop
 enum_told c = search rules

@@ -21,19 +21,19 @@ enum_told c = search rules
 multiply-requires : tie.Need-multiply-requires
 multiply-requires c κs = tt
 
-returns : tie.Need-returns-in-Refused
+returns : tie.Need-returns-in-Err
 returns c =
     let g = c in
     let s = g.args in
     rebuild-both s.p s.budget c.refused.result
-    (c.refused.ensures ∙ rebuild-refused s.p s.budget g.factor-r.result _ g.factor-r.ensures.0 c.in-Refused.is)
+    (c.refused.ensures ∙ rebuild-refused s.p s.budget g.factor-r.result _ g.factor-r.ensures.0 c.in-Err.is)
 
-returns-2 : tie.Need-returns-in-Done
+returns-2 : tie.Need-returns-in-Ok
 returns-2 c =
     let g = c in
     let s = g.args in
     rebuild-both s.p s.budget c.multiply.result
-    (c.multiply.ensures ∙ rebuild-done s.p s.budget g.factor-r.result g.factor-r.ensures.0 c.in-Done.is)
+    (c.multiply.ensures ∙ rebuild-done s.p s.budget g.factor-r.result g.factor-r.ensures.0 c.in-Ok.is)
 
 pub rebuild_spec : {M : Type 1} → statement M
 rebuild_spec =

@@ -12,10 +12,10 @@ enum-known-c c = search rules
 refused-requires : tie.Need-refused-requires
 refused-requires c κs = tt
 
-returns : tie.Need-returns-in-Refused
+returns : tie.Need-returns-in-Err
 returns c =
     let s = c.args in
-    c.refused.ensures ∙ factors-refused s.c (factors_of s.p s.budget) _ c.in-Refused.is
+    c.refused.ensures ∙ factors-refused s.c (factors_of s.p s.budget) _ c.in-Err.is
 
 enum_told : tie.Need-enum_told-1
 enum_told c = search rules
@@ -26,15 +26,15 @@ primitive-part-requires c κs = tt
 enum-known-o : tie.Need-enum_known-o
 enum-known-o c = search rules
 
-refused-requires-2 : tie.Need-refused-requires-in-Refused-o
+refused-requires-2 : tie.Need-refused-requires-in-Err-o
 refused-requires-2 c κs = tt
 
-returns-2 : tie.Need-returns-in-Refused-o
+returns-2 : tie.Need-returns-in-Err-o
 returns-2 c =
     let a = c in
     let t = a in
     let s = t.args in
-    c.refused-in-Refused-o.ensures ∙ primitive-refused s.p s.budget a.primitive_part-a.result a.primitive_part-a.ensures.0 _ c.in-Refused-o.is ∙ factors-done s.c (factors_of s.p s.budget) _ t.in_default.is
+    c.refused-in-Err-o.ensures ∙ primitive-refused s.p s.budget a.primitive_part-a.result a.primitive_part-a.ensures.0 _ c.in-Err-o.is ∙ factors-done s.c (factors_of s.p s.budget) _ t.in_default.is
 
 enum-told-2 : tie.Need-enum_told-in_default-o
 enum-told-2 c = search rules
@@ -42,16 +42,16 @@ enum-told-2 c = search rules
 decompose-requires : tie.Need-decompose-d-requires
 decompose-requires c κs = tt
 
-enum-told-3 : tie.Need-enum_told-in-Refused-od
+enum-told-3 : tie.Need-enum_told-in-Err-od
 enum-told-3 c = search rules
 
-returns-3 : tie.Need-returns-in-Refused-od
+returns-3 : tie.Need-returns-in-Err-od
 returns-3 c =
     let d = c in
     let a = d in
     let t = a in
     let s = t.args in
-    decomposition-refused s.p s.budget a.primitive_part-a.result a.primitive_part-a.ensures.0 d.in_default-o.is d.decompose-d.result d.decompose-d.ensures _ c.in-Refused-od.is ∙ factors-done s.c (factors_of s.p s.budget) _ t.in_default.is
+    decomposition-refused s.p s.budget a.primitive_part-a.result a.primitive_part-a.ensures.0 d.in_default-o.is d.decompose-d.result d.decompose-d.ensures _ c.in-Err-od.is ∙ factors-done s.c (factors_of s.p s.budget) _ t.in_default.is
 
 enum-told-4 : tie.Need-enum_told-in_default-od
 enum-told-4 c = search rules

@@ -17,17 +17,17 @@ free-part-requires : tie.Need-free_part-f-requires
 free-part-requires c κs = tt
 
 enum-known-o : tie.Need-enum_known-o
-enum-known-o c = c.in-Refused-1.keys1
+enum-known-o c = c.in-Err-1.keys1
 
 refused-requires : tie.Need-refused-requires
 refused-requires c κs = tt
 
-returns : tie.Need-returns-in-Refused
+returns : tie.Need-returns-in-Err
 returns c =
     let o = c in
     let f = o in
     let s = f.args in
-    c.refused.ensures ∙ free-refused (terms_of s.p) s.lo s.hi s.tol f.free_part-f.result f.free_part-f.ensures _ o.in-Refused.is
+    c.refused.ensures ∙ free-refused (terms_of s.p) s.lo s.hi s.tol f.free_part-f.result f.free_part-f.ensures _ o.in-Err.is
 
 enum_told : tie.Need-enum_told-1
 enum_told c = c.in_default-1.keys2
@@ -36,19 +36,19 @@ sequence-requires : tie.Need-sequence-c-requires
 sequence-requires c κs = tt
 
 enum-known-oc : tie.Need-enum_known-oc
-enum-known-oc c = c.in-Refused-oc-1.keys1
+enum-known-oc c = c.in-Err-oc-1.keys1
 
-refused-requires-2 : tie.Need-refused-requires-in-Refused-oc
+refused-requires-2 : tie.Need-refused-requires-in-Err-oc
 refused-requires-2 c κs = tt
 
-returns-2 : tie.Need-returns-in-Refused-oc
+returns-2 : tie.Need-returns-in-Err-oc
 returns-2 c =
     let o = c in
     let q = o in
     let t = q in
     let f = t in
     let s = f.args in
-    c.refused-in-Refused-oc.ensures ∙ chain-refused (terms_of s.p) s.lo s.hi s.tol f.free_part-f.result f.free_part-f.ensures t.in_default.is q.sequence-c.result q.sequence-c.ensures _ o.in-Refused-oc.is
+    c.refused-in-Err-oc.ensures ∙ chain-refused (terms_of s.p) s.lo s.hi s.tol f.free_part-f.result f.free_part-f.ensures t.in_default.is q.sequence-c.result q.sequence-c.ensures _ o.in-Err-oc.is
 
 enum-told-2 : tie.Need-enum_told-in_default-oc
 enum-told-2 c = c.in_default-oc-1.keys2
@@ -57,12 +57,12 @@ bisect-isolate-requires : tie.Need-bisect_isolate-b-requires
 bisect-isolate-requires c κs = tt
 
 enum-known-ob : tie.Need-enum_known-ob
-enum-known-ob c = c.in-Refused-ob-1.keys1
+enum-known-ob c = c.in-Err-ob-1.keys1
 
-refused-requires-3 : tie.Need-refused-requires-in-Refused-ob
+refused-requires-3 : tie.Need-refused-requires-in-Err-ob
 refused-requires-3 c κs = tt
 
-returns-3 : tie.Need-returns-in-Refused-ob
+returns-3 : tie.Need-returns-in-Err-ob
 returns-3 c =
     let o = c in
     let b = o in
@@ -71,7 +71,7 @@ returns-3 c =
     let t = q in
     let f = t in
     let s = f.args in
-    c.refused-in-Refused-ob.ensures ∙ brackets-refused (terms_of s.p) s.lo s.hi s.tol f.free_part-f.result f.free_part-f.ensures t.in_default.is q.sequence-c.result q.sequence-c.ensures u.in_default-oc.is b.bisect_isolate-b.result b.bisect_isolate-b.ensures _ o.in-Refused-ob.is
+    c.refused-in-Err-ob.ensures ∙ brackets-refused (terms_of s.p) s.lo s.hi s.tol f.free_part-f.result f.free_part-f.ensures t.in_default.is q.sequence-c.result q.sequence-c.ensures u.in_default-oc.is b.bisect_isolate-b.result b.bisect_isolate-b.ensures _ o.in-Err-ob.is
 
 enum-told-3 : tie.Need-enum_told-in_default-ob
 enum-told-3 c = c.in_default-ob-1.keys2

@@ -11,11 +11,11 @@ enum_told c = search rules
 enum-known-s : tie.Need-enum_known-s
 enum-known-s c = search rules
 
-returns : tie.Need-returns-in-Done
+returns : tie.Need-returns-in-Ok
 returns c = search rules
 
-returns-2 : tie.Need-returns-in-Refused
-returns-2 c = sym (ap outcome_of c.in-Refused.is)
+returns-2 : tie.Need-returns-in-Err
+returns-2 c = sym (ap outcome_of c.in-Err.is)
 
 pub outcome_of_spec : {M : Type 1} → statement M
 outcome_of_spec = tie.close (tie.spec enum_told enum-known-s returns returns-2)

@@ -16,17 +16,17 @@ enum-known-o c = search rules
 refuse-requires : tie.Need-refuse-requires
 refuse-requires c κs = tt
 
-same_length : tie.Need-shape_of-page-in-Done
+same_length : tie.Need-shape_of-page-in-Ok
 same_length c = search rules
 
-returns : tie.Need-returns-in-Done
-returns c = job-done c.args.r _ _ _ c.in-Done.is c.work.ensures
+returns : tie.Need-returns-in-Ok
+returns c = job-done c.args.r _ _ _ c.in-Ok.is c.work.ensures
 
-same-length-2 : tie.Need-shape_of-page-in-Refused
+same-length-2 : tie.Need-shape_of-page-in-Err
 same-length-2 c = search rules
 
-returns-2 : tie.Need-returns-in-Refused
-returns-2 c = job-refused c.args.r _ _ _ _ c.in-Refused.is c.refuse.ensures
+returns-2 : tie.Need-returns-in-Err
+returns-2 c = job-refused c.args.r _ _ _ _ c.in-Err.is c.refuse.ensures
 
 pub reply_to_spec : {M : Type 1} → statement M
 reply_to_spec =

@@ -15,11 +15,11 @@ enum_told c = search rules
 skipped-requires : tie.Need-skipped-requires
 skipped-requires c κs = tt
 
-returns : tie.Need-returns-in-Refused
+returns : tie.Need-returns-in-Err
 returns c =
     let p = c in
     let s = p.args in
-    c.skipped.ensures ∙ added_none (terms_of s.acc) s.b s.y p.part-t.result p.part-t.ensures _ c.in-Refused.is
+    c.skipped.ensures ∙ added_none (terms_of s.acc) s.b s.y p.part-t.result p.part-t.ensures _ c.in-Err.is
 
 enum-told-2 : tie.Need-enum_told-in_default
 enum-told-2 c = search rules

@@ -21,11 +21,11 @@ enum_told c = search rules
 no-basis-requires : tie.Need-no_basis-requires
 no-basis-requires c κs = tt
 
-returns : tie.Need-returns-in-Refused
+returns : tie.Need-returns-in-Err
 returns c =
     let b = c in
     let s = b.args in
-    serves-none s.i s.n b.product-b.result b.product-b.ensures _ c.in-Refused.is c.no_basis.result c.no_basis.ensures
+    serves-none s.i s.n b.product-b.result b.product-b.ensures _ c.in-Err.is c.no_basis.result c.no_basis.ensures
 
 enum-told-2 : tie.Need-enum_told-in_default
 enum-told-2 c = search rules
@@ -57,7 +57,7 @@ returns-3 c =
     let v = c in
     let b = v in
     let s = b.args in
-    serves-done s.i s.n b.product-b.result b.product-b.ensures v.in_default.is _ (told v.before ∙ c.in-Done.is)
+    serves-done s.i s.n b.product-b.result b.product-b.ensures v.in_default.is _ (told v.before ∙ c.in-Ok.is)
 
 pub basis_at_spec : {M : Type 1} → statement M
 basis_at_spec =

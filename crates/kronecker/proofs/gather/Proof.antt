@@ -1,9 +1,9 @@
 -- `kronecker::gather` meets its contract. The loop's invariant: the points that are left give the whole.
+use Rattle.ratio.specs.Refusal.{status_of}
 use lib.IntN.{ℤ, nat_abs}
 use mir.Syntax.{w64}
 use mir.Val.{to_z, of_z}
 use mir.Facts.{to_z-of_z}
-use Rattle.ratio.specs.Refusal.{outcome_status}
 use Rattle.ratio.specs.declared.Ratio.{Ratio}
 use Rattle.divisors.specs.Listing.{factors_of}
 use Rattle.divisors.specs.Marks.{listing_of}
@@ -52,12 +52,12 @@ enum-known-o c = search rules
 no-gathering-requires : tie.Need-no_gathering-requires invariant-loop decreases-loop
 no-gathering-requires c κs = tt
 
-returns : tie.Need-returns-in-Refused invariant-loop decreases-loop
+returns : tie.Need-returns-in-Err invariant-loop decreases-loop
 returns c =
     let a = c in
     let l = a in
     let s = l.args in
-    (c.no_gathering.ensures.0, gathers-over (terms_of s.f) s.budget s.n l.loop-j.j (rows_of l.loop-j.j l.loop-j.made) (omega arith) l.loop-j.invariant.3 a.integer_factors-l.result (listed a.before.before) c.no_gathering.result _ c.in-Refused.is c.no_gathering.ensures.1)
+    (c.no_gathering.ensures.0, gathers-over (terms_of s.f) s.budget s.n l.loop-j.j (rows_of l.loop-j.j l.loop-j.made) (omega arith) l.loop-j.invariant.3 a.integer_factors-l.result (listed a.before.before) c.no_gathering.result _ c.in-Err.is c.no_gathering.ensures.1)
 
 enum_told : tie.Need-enum_told-1 invariant-loop decreases-loop
 enum_told c = search rules
@@ -77,7 +77,7 @@ loop-again c =
     let l = a in
     let s = l.args in
     let o = c.in_default.is in
-    let d = a.integer_factors-l.ensures.1.order (ap outcome_status o) ∙ ap (λ (z : ℤ). factors_of (nat_abs z)) (number a.before.before.before.before) in
+    let d = a.integer_factors-l.ensures.1.order (ap status_of o) ∙ ap (λ (z : ℤ). factors_of (nat_abs z)) (number a.before.before.before.before) in
     (l.loop-j.invariant.0, omega arith, c.grow-made.ensures.0, gathers-more (terms_of s.f) s.budget s.n l.loop-j.j (rows_of l.loop-j.j l.loop-j.made) (omega arith) l.loop-j.invariant.3 a.integer_factors-l.result (listed a.before.before.before.before) (rows_of (l.loop-j.j + 1) c.grow-made.result) o (c.grow-made.ensures.1 ∙ ap (grown (rows_of l.loop-j.j l.loop-j.made)) d))
 
 returns-2 : tie.Need-returns invariant-loop decreases-loop

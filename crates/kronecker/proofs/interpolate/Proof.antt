@@ -67,13 +67,13 @@ enum_told c = search rules
 skipped-requires : tie.Need-skipped-requires invariant-loop decreases-loop
 skipped-requires c κs = tt
 
-returns : tie.Need-returns-in-Refused invariant-loop decreases-loop
+returns : tie.Need-returns-in-Err invariant-loop decreases-loop
 unfolding interpolated_of
 returns c =
     let m = c in
     let l = m in
     let s = l.args in
-    c.skipped.ensures ∙ repeating-over (turn (take s.n s.c.values) s.n) s.n [] l.loop-i.i (terms_of l.loop-i.acc) (omega arith) l.loop-i.invariant.3 m.add_part-a.result (told m.before.before) _ c.in-Refused.is
+    c.skipped.ensures ∙ repeating-over (turn (take s.n s.c.values) s.n) s.n [] l.loop-i.i (terms_of l.loop-i.acc) (omega arith) l.loop-i.invariant.3 m.add_part-a.result (told m.before.before) _ c.in-Err.is
 
 enum-told-2 : tie.Need-enum_told-in_default invariant-loop decreases-loop
 enum-told-2 c = search rules

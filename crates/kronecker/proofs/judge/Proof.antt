@@ -40,15 +40,15 @@ divide-requires c κs = tt
 enum_told : tie.Need-enum_told-1
 enum_told c = search rules
 
-without-requires-3 : tie.Need-without-requires-in-Refused
+without-requires-3 : tie.Need-without-requires-in-Err
 without-requires-3 c κs = tt
 
-returns-3 : tie.Need-returns-in-Refused
+returns-3 : tie.Need-returns-in-Err
 returns-3 c =
     let d = c in
     let w = d in
     let s = w.args in
-    c.without-in-Refused.ensures ∙ judged-over (terms_of s.f) (terms_of s.c) (omega (arith, w.length.ensures)) (sym w.all_whole.ensures ∙ not-false _ d.if-not-all_whole.false-raw) d.divide-d.result d.divide-d.ensures _ c.in-Refused.is
+    c.without-in-Err.ensures ∙ judged-over (terms_of s.f) (terms_of s.c) (omega (arith, w.length.ensures)) (sym w.all_whole.ensures ∙ not-false _ d.if-not-all_whole.false-raw) d.divide-d.result d.divide-d.ensures _ c.in-Err.is
 
 enum-told-2 : tie.Need-enum_told-in_default
 enum-told-2 c = search rules

@@ -21,7 +21,7 @@ returns : tie.Need-returns-in_default
 returns c = c.whole.ensures ∙ sym (ap ratio_of (sym c.checked_neg.ensures.0 ∙ c.in_default.is))
 
 returns-2 : tie.Need-returns
-returns-2 c = sym (ap ratio_of (sym c.checked_neg.ensures.0 ∙ c.in-Done.is))
+returns-2 c = sym (ap ratio_of (sym c.checked_neg.ensures.0 ∙ c.in-Ok.is))
 
 pub negated_spec : {M : Type 1} → statement M
 negated_spec =

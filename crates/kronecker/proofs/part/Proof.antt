@@ -47,7 +47,7 @@ returns-3 : tie.Need-returns
 returns-3 c =
     let n = c in
     let s = n.args in
-    c.scale.ensures ∙ part-done s.b s.y (not-false _ n.if-not-b.false) _ (made n.before.before.before ∙ c.in-Done.is)
+    c.scale.ensures ∙ part-done s.b s.y (not-false _ n.if-not-b.false) _ (made n.before.before.before ∙ c.in-Ok.is)
 
 pub part_spec : {M : Type 1} → statement M
 part_spec =

@@ -35,13 +35,13 @@ enum_told c = search rules
 skipped-requires : tie.Need-skipped-requires invariant-loop decreases-loop
 skipped-requires c κs = tt
 
-returns : tie.Need-returns-in-Refused invariant-loop decreases-loop
+returns : tie.Need-returns-in-Err invariant-loop decreases-loop
 unfolding basis_of
 returns c =
     let m = c in
     let l = m in
     let s = l.args in
-    c.skipped.ensures ∙ repeating-over (basis_step s.i) s.n (whole_r (pos 1) ∷ []) l.loop-j.j (terms_of l.loop-j.acc) (omega arith) l.loop-j.invariant.1 m.basis_step-a.result m.basis_step-a.ensures _ c.in-Refused.is
+    c.skipped.ensures ∙ repeating-over (basis_step s.i) s.n (whole_r (pos 1) ∷ []) l.loop-j.j (terms_of l.loop-j.acc) (omega arith) l.loop-j.invariant.1 m.basis_step-a.result m.basis_step-a.ensures _ c.in-Err.is
 
 enum-told-2 : tie.Need-enum_told-in_default invariant-loop decreases-loop
 enum-told-2 c = search rules

@@ -57,7 +57,7 @@ loop-again : tie.Need-loop-j-preserved invariant-loop decreases-loop
 loop-again c =
     let l = c in
     let s = l.args in
-    let m = surveying-more (terms_of s.f) s.n l.loop-j.j l.loop-j.fine (omega arith) l.loop-j.invariant.1 _ (told c.before.before.before ∙ c.in-Done.is) in
+    let m = surveying-more (terms_of s.f) s.n l.loop-j.j l.loop-j.fine (omega arith) l.loop-j.invariant.1 _ (told c.before.before.before ∙ c.in-Ok.is) in
     (omega arith, rw (c.and-fine.ensures, c.is_whole.ensures) m)
 
 returns-2 : tie.Need-returns-then-fine invariant-loop decreases-loop

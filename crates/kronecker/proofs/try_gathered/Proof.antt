@@ -21,17 +21,17 @@ enum_told c = search rules
 try-all-requires : tie.Need-try_all-requires
 try-all-requires c κs = (c.requires, c.gather-g.ensures.0)
 
-returns : tie.Need-returns-in-Refused
+returns : tie.Need-returns-in-Err
 returns c =
     let g = c in
     let s = g.args in
-    c.without.ensures ∙ gathered-refused (terms_of s.f) s.n _ g.gather-g.result g.gather-g.ensures.1 _ c.in-Refused.is
+    c.without.ensures ∙ gathered-refused (terms_of s.f) s.n _ g.gather-g.result g.gather-g.ensures.1 _ c.in-Err.is
 
-returns-2 : tie.Need-returns-in-Done
+returns-2 : tie.Need-returns-in-Ok
 returns-2 c =
     let g = c in
     let s = g.args in
-    c.try_all.ensures ∙ gathered-tried (terms_of s.f) s.n _ g.gather-g.result g.gather-g.ensures.1 c.in-Done.is
+    c.try_all.ensures ∙ gathered-tried (terms_of s.f) s.n _ g.gather-g.result g.gather-g.ensures.1 c.in-Ok.is
 
 pub try_gathered_spec : {M : Type 1} → statement M
 try_gathered_spec =

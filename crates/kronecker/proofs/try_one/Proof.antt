@@ -16,11 +16,11 @@ enum_told c = search rules
 without-requires : tie.Need-without-requires
 without-requires c κs = tt
 
-returns : tie.Need-returns-in-Refused
+returns : tie.Need-returns-in-Err
 returns c =
     let i = c in
     let s = i.args in
-    c.without.ensures ∙ tried-skipped (terms_of s.f) s.n (take s.n s.c.values) i.interpolate-a.result i.interpolate-a.ensures _ c.in-Refused.is
+    c.without.ensures ∙ tried-skipped (terms_of s.f) s.n (take s.n s.c.values) i.interpolate-a.result i.interpolate-a.ensures _ c.in-Err.is
 
 enum-told-2 : tie.Need-enum_told-in_default
 enum-told-2 c = search rules

@@ -31,7 +31,7 @@ returns : tie.Need-returns-in_default
 returns c = c.whole.ensures ∙ sym (ap ratio_of (told c.before.before ∙ c.in_default.is))
 
 returns-2 : tie.Need-returns
-returns-2 c = sym (ap ratio_of (told c.before ∙ c.in-Done.is))
+returns-2 c = sym (ap ratio_of (told c.before ∙ c.in-Ok.is))
 
 pub value_spec : {M : Type 1} → statement M
 value_spec =

@@ -11,7 +11,7 @@ f64-to-ratio-requires : tie.Need-f64_to_ratio-requires
 f64-to-ratio-requires c κs = tt
 
 enum-known-c : tie.Need-enum_known-c
-enum-known-c c = c.in-Done-1.keys1
+enum-known-c c = c.in-Ok-1.keys1
 
 level-requires : tie.Need-level-requires
 level-requires c κs = tt
@@ -20,20 +20,20 @@ done-requires : tie.Need-done-requires
 done-requires c κs = tt
 
 enum-known-why : tie.Need-enum_known-why
-enum-known-why c = c.in-Refused-1.keys2
+enum-known-why c = c.in-Err-1.keys2
 
 refused-requires : tie.Need-refused-requires
 refused-requires c κs = tt
 
-returns : tie.Need-returns-in-Done
+returns : tie.Need-returns-in-Ok
 returns c =
     let k = c in
     let f = k in
-    constant-found k.in-Done.c f.args.x f.f64_to_ratio.result k.in-Done.is f.f64_to_ratio.ensures.0 f.f64_to_ratio.ensures.1 c.done.result
+    constant-found k.in-Ok.c f.args.x f.f64_to_ratio.result k.in-Ok.is f.f64_to_ratio.ensures.0 f.f64_to_ratio.ensures.1 c.done.result
     (c.done.ensures ∙ ap (λ (p : Poly). done_with p 0) c.level.ensures)
 
-returns-2 : tie.Need-returns-in-Refused
-returns-2 c = c.refused.ensures ∙ ap constant_by (sym c.in-Refused.is ∙ c.f64_to_ratio.ensures.0)
+returns-2 : tie.Need-returns-in-Err
+returns-2 c = c.refused.ensures ∙ ap constant_by (sym c.in-Err.is ∙ c.f64_to_ratio.ensures.0)
 
 pub constant_spec : {M : Type 1} → statement M
 constant_spec =

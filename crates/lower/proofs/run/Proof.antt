@@ -153,12 +153,12 @@ made c =
     c.match-work.branch-raw
 
 enum-known-o : tie.Need-enum_known-o invariant-loop decreases-loop
-enum-known-o c = c.in-Refused-1.keys1
+enum-known-o c = c.in-Err-1.keys1
 
-refused-requires-3 : tie.Need-refused-requires-in-Refused invariant-loop decreases-loop
+refused-requires-3 : tie.Need-refused-requires-in-Err invariant-loop decreases-loop
 refused-requires-3 c κs = tt
 
-returns-2 : tie.Need-returns-in-Refused invariant-loop decreases-loop
+returns-2 : tie.Need-returns-in-Err invariant-loop decreases-loop
 returns-2 c =
     let j = c in
     let t = j in
@@ -166,8 +166,8 @@ returns-2 c =
     let l = w in
     let s = l.args in
     let v = drop l.loop-at.free l.loop-at.values in
-    c.refused-in-Refused.ensures ∙ ap alone (run-stop s.text.now l.loop-at.at w.word_end-end.result w.loop-at-test.true w.word_end-end.ensures s.wrt v t.work_of-work.result (asks t.before.before.before.before)
-    (made-stop s.wrt t.work_of-work.result l.loop-at.values l.loop-at.free j.match-work.r l.loop-at.invariant.2 (made j.before.before) _ c.in-Refused.is) ∙ l.loop-at.invariant.4)
+    c.refused-in-Err.ensures ∙ ap alone (run-stop s.text.now l.loop-at.at w.word_end-end.result w.loop-at-test.true w.word_end-end.ensures s.wrt v t.work_of-work.result (asks t.before.before.before.before)
+    (made-stop s.wrt t.work_of-work.result l.loop-at.values l.loop-at.free j.match-work.r l.loop-at.invariant.2 (made j.before.before) _ c.in-Err.is) ∙ l.loop-at.invariant.4)
 
 enum_told : tie.Need-enum_told-1 invariant-loop decreases-loop
 enum_told c = c.in_default-1.keys2

@@ -1,10 +1,10 @@
 -- `poly::leading_coeff` meets its contract.
+use Rattle.std.specs.Prelude.{Ok}
 use mathlib.Core.Path.{sym, ap, ◌∙◌}
 use Prim.Native.Nat.{ℕ, ◌-◌, ◌≤◌}
 use native.Mathlib.Omega.{arith}
 use lib.ListN.{length, get_or, get_or-eq_default}
 use Rattle.ratio.specs.Refusal.{zero_r}
-use Rattle.ratio.specs.declared.Step.TheVariants.{Done}
 use Rattle.terms.specs.Poly.{terms_of}
 use Rattle.terms.proofs.Lists.{long, past, within-32, read-terms}
 use Rattle.poly.proofs.Doors.{open_step, shut-step}
@@ -45,7 +45,7 @@ returns c =
     let g = l in
     let p = g.args.p in
     let n : length (terms_of p) ≤ length (terms_of p) - 1 = omega (arith, l.length-n.ensures) in
-    with_lead p _ (open_step g.door-d.result _ g.door-d.ensures l.in-Open.is _ _ (ap Done (sym (get_or-eq_default (terms_of p) zero_r n))))
+    with_lead p _ (open_step g.door-d.result _ g.door-d.ensures l.in-Open.is _ _ (ap Ok (sym (get_or-eq_default (terms_of p) zero_r n))))
 
 returns-2 : tie.Need-returns-else-n-eq0
 returns-2 c =
@@ -53,7 +53,7 @@ returns-2 c =
     let g = l in
     let p = g.args.p in
     with_lead p _ (open_step g.door-d.result _ g.door-d.ensures l.in-Open.is _ _
-    (ap Done (read-terms p.len p.coeffs (l.length-n.result - 1) past zero_r (omega (arith, l.length-n.ensures)) ∙ ap (λ (n : ℕ). get_or (terms_of p) (n - 1) zero_r) l.length-n.ensures)))
+    (ap Ok (read-terms p.len p.coeffs (l.length-n.result - 1) past zero_r (omega (arith, l.length-n.ensures)) ∙ ap (λ (n : ℕ). get_or (terms_of p) (n - 1) zero_r) l.length-n.ensures)))
 
 returns-3 : tie.Need-returns-in_default
 returns-3 c =

@@ -54,17 +54,17 @@ add-steps : tie.Need-overflow_add-steps invariant-loop decreases-loop
 add-steps c = omega (arith, few c.before)
 
 enum-known-o : tie.Need-enum_known-o invariant-loop decreases-loop
-enum-known-o c = c.in-Refused-1.keys1
+enum-known-o c = c.in-Err-1.keys1
 
 refused-requires : tie.Need-refused-requires invariant-loop decreases-loop
 refused-requires c κs = tt
 
-returns : tie.Need-returns-in-Refused invariant-loop decreases-loop
+returns : tie.Need-returns-in-Err invariant-loop decreases-loop
 returns c =
     let t = c in
     let l = t in
     let s = l.args in
-    c.refused.ensures ∙ raised-over (terms_of s.p) s.n l.loop-i.i l.loop-i.steps l.loop-i.acc (omega arith) l.loop-i.invariant.5 t.times-r.result t.times-r.ensures _ c.in-Refused.is
+    c.refused.ensures ∙ raised-over (terms_of s.p) s.n l.loop-i.i l.loop-i.steps l.loop-i.acc (omega arith) l.loop-i.invariant.5 t.times-r.result t.times-r.ensures _ c.in-Err.is
 
 enum_told : tie.Need-enum_told-1 invariant-loop decreases-loop
 enum_told c = c.in_default-1.keys2

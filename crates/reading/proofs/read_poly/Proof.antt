@@ -1,10 +1,10 @@
 -- `reading::read_poly` meets its contract. The loop's invariant: the words before this place gave these coefficients, and the rest decides.
+use Rattle.std.specs.Prelude.{Ok}
 use mathlib.Core.Path.{◌≡◌, sym, ◌∙◌}
 use Prim.Native.Nat.{◌-◌, ◌≤◌}
 use native.Mathlib.Omega.{arith}
 use borrow.Author.Rules.{rules}
 use lib.ListN.{length, take, drop}
-use Rattle.ratio.specs.declared.Step.TheVariants as S
 use Rattle.tokens.proofs.Heights.{end-within}
 use Rattle.reading.specs.Numbers.{ratio_from}
 use Rattle.reading.proofs.Polys.{poly-both}
@@ -46,7 +46,7 @@ read-ratio-requires : tie.Need-read_ratio-requires invariant-loop decreases-loop
 read-ratio-requires c κs = tt
 
 enum-known-c : tie.Need-enum_known-c invariant-loop decreases-loop
-enum-known-c c = c.in-Done-1.keys1
+enum-known-c c = c.in-Ok-1.keys1
 
 enum_told : tie.Need-enum_told-1 invariant-loop decreases-loop
 enum_told c = c.in_default-1.keys2
@@ -66,8 +66,8 @@ top-requires : tie.Need-top-requires invariant-loop decreases-loop
 top-requires c κs = tt
 
 -- the coefficient that the word spells
-got : (c : tie.In-Done invariant-loop decreases-loop) → ratio_from (take (c.word_end-end.result - c.loop-at.at) (drop c.loop-at.at c.args.text.now)) ≡ S.Done c.in-Done.c
-got c = sym c.read_ratio.ensures.0 ∙ c.in-Done.is
+got : (c : tie.In-Ok invariant-loop decreases-loop) → ratio_from (take (c.word_end-end.result - c.loop-at.at) (drop c.loop-at.at c.args.text.now)) ≡ Ok c.in-Ok.c
+got c = sym c.read_ratio.ensures.0 ∙ c.in-Ok.is
 
 returns-2 : tie.Need-returns-then-end-text invariant-loop decreases-loop
 returns-2 c =

@@ -159,11 +159,11 @@ ordered-enum-told t c = search rules
 ordered-no-number-requires : (t : ℕ) → ordered-lts.Need-no_number-requires (calls t) (ordered_at t) ordered.Post
 ordered-no-number-requires t c κs = tt
 
-ordered-returns-3 : (t : ℕ) → ordered-lts.Need-returns-in-Refused (calls t) (ordered_at t) ordered.Post
+ordered-returns-3 : (t : ℕ) → ordered-lts.Need-returns-in-Err (calls t) (ordered_at t) ordered.Post
 ordered-returns-3 t c =
     let x = c in
     let s = x in
-    c.no_number.ensures ∙ division-refused (terms_of s.args.a) (terms_of s.args.b) (two t x.before.before) x.divide-d.result x.divide-d.ensures _ c.in-Refused.is
+    c.no_number.ensures ∙ division-refused (terms_of s.args.a) (terms_of s.args.b) (two t x.before.before) x.divide-d.result x.divide-d.ensures _ c.in-Err.is
 
 ordered-enum-told-2 : (t : ℕ) → ordered-lts.Need-enum_told-in_default (calls t) (ordered_at t) ordered.Post
 ordered-enum-told-2 t c = search rules
@@ -195,21 +195,21 @@ ordered-power-requires-2 t c κs =
     let n = c in
     omega (arith, c.less.ensures, n.length-n.ensures, first-32 t n.before.before.before.before.before.before.before.before.before.before.before)
 
-ordered-enum-told-3 : (t : ℕ) → ordered-lts.Need-enum_told-in-Refused-op (calls t) (ordered_at t) ordered.Post
+ordered-enum-told-3 : (t : ℕ) → ordered-lts.Need-enum_told-in-Err-op (calls t) (ordered_at t) ordered.Post
 ordered-enum-told-3 t c = search rules
 
 ordered-add-no-number : (t : ℕ) → ordered-lts.Need-overflow_add-d (calls t) (ordered_at t) ordered.Post
 ordered-add-no-number t c = omega (arith, few-before t c.before.before.before)
 
-ordered-no-number-requires-2 : (t : ℕ) → ordered-lts.Need-no_number-requires-in-Refused-op (calls t) (ordered_at t) ordered.Post
+ordered-no-number-requires-2 : (t : ℕ) → ordered-lts.Need-no_number-requires-in-Err-op (calls t) (ordered_at t) ordered.Post
 ordered-no-number-requires-2 t c κs = tt
 
-ordered-returns-5 : (t : ℕ) → ordered-lts.Need-returns-in-Refused-op (calls t) (ordered_at t) ordered.Post
+ordered-returns-5 : (t : ℕ) → ordered-lts.Need-returns-in-Err-op (calls t) (ordered_at t) ordered.Post
 ordered-returns-5 t c =
     let w = c in
     let x = w in
     let s = x in
-    c.no_number-in-Refused-op.ensures ∙ power-refused (terms_of s.args.a) (terms_of s.args.b) (two t x.before.before.before.before.before.before.before.before.before.before.before) x.divide-d.result x.divide-d.ensures w.in_default.is (some t w.before.before.before.before.before.before.before) w.power-p.result (power-is t w.before.before.before.before) _ c.in-Refused-op.is
+    c.no_number-in-Err-op.ensures ∙ power-refused (terms_of s.args.a) (terms_of s.args.b) (two t x.before.before.before.before.before.before.before.before.before.before.before) x.divide-d.result x.divide-d.ensures w.in_default.is (some t w.before.before.before.before.before.before.before) w.power-p.result (power-is t w.before.before.before.before) _ c.in-Err-op.is
 
 ordered-enum-told-4 : (t : ℕ) → ordered-lts.Need-enum_told-in_default-op (calls t) (ordered_at t) ordered.Post
 ordered-enum-told-4 t c = search rules
@@ -222,25 +222,25 @@ ordered-ordered-requires t c κs =
     let r = rest-shorter (terms_of s.args.a) (terms_of s.args.b) (two t x.before.before.before.before.before.before.before.before) x.divide-d.result x.divide-d.ensures w.in_default.is in
     (omega (arith, s.requires.0), omega arith)
 
-ordered-enum-told-5 : (t : ℕ) → ordered-lts.Need-enum_told-in-Refused-os (calls t) (ordered_at t) ordered.Post
+ordered-enum-told-5 : (t : ℕ) → ordered-lts.Need-enum_told-in-Err-os (calls t) (ordered_at t) ordered.Post
 ordered-enum-told-5 t c = search rules
 
-ordered-add-no-number-2 : (t : ℕ) → ordered-lts.Need-overflow_add-d-in-Refused-os (calls t) (ordered_at t) ordered.Post
+ordered-add-no-number-2 : (t : ℕ) → ordered-lts.Need-overflow_add-d-in-Err-os (calls t) (ordered_at t) ordered.Post
 ordered-add-no-number-2 t c = omega (arith, few-before t c.before.before.before.before.before)
 
-ordered-add-no-number-3 : (t : ℕ) → ordered-lts.Need-overflow_add-d-in-Refused-os-2 (calls t) (ordered_at t) ordered.Post
+ordered-add-no-number-3 : (t : ℕ) → ordered-lts.Need-overflow_add-d-in-Err-os-2 (calls t) (ordered_at t) ordered.Post
 ordered-add-no-number-3 t c = let i = c in omega (arith, few-before t i.before.before.before.before.before.before, few-inner t i.before.before.before.before)
 
-ordered-no-number-requires-3 : (t : ℕ) → ordered-lts.Need-no_number-requires-in-Refused-os (calls t) (ordered_at t) ordered.Post
+ordered-no-number-requires-3 : (t : ℕ) → ordered-lts.Need-no_number-requires-in-Err-os (calls t) (ordered_at t) ordered.Post
 ordered-no-number-requires-3 t c κs = tt
 
-ordered-returns-6 : (t : ℕ) → ordered-lts.Need-returns-in-Refused-os (calls t) (ordered_at t) ordered.Post
+ordered-returns-6 : (t : ℕ) → ordered-lts.Need-returns-in-Err-os (calls t) (ordered_at t) ordered.Post
 ordered-returns-6 t c =
     let i = c in
     let w = i in
     let x = w in
     let s = x in
-    c.no_number-in-Refused-os.ensures ∙ inner-refused (terms_of s.args.a) (terms_of s.args.b) (two t x.before.before.before.before.before.before.before.before.before.before.before.before.before.before) x.divide-d.result x.divide-d.ensures w.in_default.is (some t w.before.before.before.before.before.before.before.before.before.before) w.power-p.result (power-is t w.before.before.before.before.before.before.before) i.in_default-op.is i.ordered-s.result i.ordered-s.ensures _ c.in-Refused-os.is
+    c.no_number-in-Err-os.ensures ∙ inner-refused (terms_of s.args.a) (terms_of s.args.b) (two t x.before.before.before.before.before.before.before.before.before.before.before.before.before.before) x.divide-d.result x.divide-d.ensures w.in_default.is (some t w.before.before.before.before.before.before.before.before.before.before) w.power-p.result (power-is t w.before.before.before.before.before.before.before) i.in_default-op.is i.ordered-s.result i.ordered-s.ensures _ c.in-Err-os.is
 
 ordered-enum-told-6 : (t : ℕ) → ordered-lts.Need-enum_told-in_default-os (calls t) (ordered_at t) ordered.Post
 ordered-enum-told-6 t c = search rules

@@ -70,11 +70,11 @@ enum_told c = search rules
 no-number-requires : tie.Need-no_number-requires
 no-number-requires c κs = search rules
 
-returns-3 : tie.Need-returns-in-Refused
+returns-3 : tie.Need-returns-in-Err
 returns-3 c =
     let x = c in
     let f = terms_of x.args.f in
-    c.no_number.ensures ∙ derivative-refused f (two x.before.before) x.differentiate-d.result x.differentiate-d.ensures _ c.in-Refused.is
+    c.no_number.ensures ∙ derivative-refused f (two x.before.before) x.differentiate-d.result x.differentiate-d.ensures _ c.in-Err.is
 
 enum-told-2 : tie.Need-enum_told-in_default
 enum-told-2 c = search rules
@@ -82,21 +82,21 @@ enum-told-2 c = search rules
 resultant-ratio-requires : tie.Need-resultant_ratio-r-requires
 resultant-ratio-requires c κs = search rules
 
-enum-told-3 : tie.Need-enum_told-in-Refused-o
+enum-told-3 : tie.Need-enum_told-in-Err-o
 enum-told-3 c = search rules
 
 add-no-number : tie.Need-overflow_add-d
 add-no-number c = omega (arith, few c.before.before.before)
 
-no-number-requires-2 : tie.Need-no_number-requires-in-Refused-o
+no-number-requires-2 : tie.Need-no_number-requires-in-Err-o
 no-number-requires-2 c κs = search rules
 
-returns-4 : tie.Need-returns-in-Refused-o
+returns-4 : tie.Need-returns-in-Err-o
 returns-4 c =
     let y = c in
     let x = y in
     let f = terms_of x.args.f in
-    c.no_number-in-Refused-o.ensures ∙ resultant-refused f (two x.before.before.before.before.before.before.before) x.differentiate-d.result x.differentiate-d.ensures y.in_default.is y.resultant_ratio-r.result y.resultant_ratio-r.ensures _ c.in-Refused-o.is
+    c.no_number-in-Err-o.ensures ∙ resultant-refused f (two x.before.before.before.before.before.before.before) x.differentiate-d.result x.differentiate-d.ensures y.in_default.is y.resultant_ratio-r.result y.resultant_ratio-r.ensures _ c.in-Err-o.is
 
 enum-told-4 : tie.Need-enum_told-in_default-o
 enum-told-4 c = search rules

@@ -1,8 +1,9 @@
 -- `remainders::divide` meets its contract.
+use Rattle.ratio.specs.Refusal.{no_refusal}
+use Rattle.std.specs.Prelude.{Ok}
 use mathlib.Core.Path.{ap₂, ◌∙◌}
 use native.Mathlib.Omega.{arith}
 use borrow.Author.Rules.{rules}
-use Rattle.ratio.specs.declared.Outcome.TheVariants as O
 use Rattle.terms.specs.declared.Poly.{Poly}
 use Rattle.terms.specs.Poly.{terms_of}
 use Rattle.remainders.specs.declared.Division.{Division}
@@ -34,7 +35,7 @@ returns-2 : tie.Need-returns-then-n-m
 returns-2 c =
     let m = c in
     let s = m.args in
-    ap₂ {C = Division} (λ (p q : Poly). record { outcome = O.Done; quotient = p; rest = q; steps = 0 }) c.zero.ensures c.normalise.ensures
+    ap₂ {C = Division} (λ (p q : Poly). record { outcome = no_refusal; quotient = p; rest = q; steps = 0 }) c.zero.ensures c.normalise.ensures
     ∙ divided-lower (terms_of s.a) (terms_of s.b) (omega (arith, m.length-m.ensures, m.length-n.ensures))
 
 quotients-requires : tie.Need-quotients-requires

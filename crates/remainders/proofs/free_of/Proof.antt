@@ -36,11 +36,11 @@ enum_told c = search rules
 refused-requires : tie.Need-refused-requires
 refused-requires c κs = search rules
 
-returns-2 : tie.Need-returns-in-Refused
+returns-2 : tie.Need-returns-in-Err
 returns-2 c =
     let d = c in
     let s = d.args in
-    c.refused.ensures ∙ freed-refused (terms_of s.f) (terms_of s.g) d.divide-d.result (omega (arith, d.length.ensures)) d.divide-d.ensures _ c.in-Refused.is
+    c.refused.ensures ∙ freed-refused (terms_of s.f) (terms_of s.g) d.divide-d.result (omega (arith, d.length.ensures)) d.divide-d.ensures _ c.in-Err.is
 
 enum-told-2 : tie.Need-enum_told-in_default
 enum-told-2 c = search rules

@@ -41,10 +41,10 @@ enum_told c = search rules
 refused-requires : tie.Need-refused-requires
 refused-requires c κs = search rules
 
-returns-2 : tie.Need-returns-in-Refused
+returns-2 : tie.Need-returns-in-Err
 returns-2 c =
     let d = c in
-    c.refused.ensures ∙ derivative-refused (terms_of d.args.f) (some d.before.before.before) (short d.before.before.before.before.before) d.differentiate-d.result d.differentiate-d.ensures _ c.in-Refused.is
+    c.refused.ensures ∙ derivative-refused (terms_of d.args.f) (some d.before.before.before) (short d.before.before.before.before.before) d.differentiate-d.result d.differentiate-d.ensures _ c.in-Err.is
 
 enum-told-2 : tie.Need-enum_told-in_default
 enum-told-2 c = search rules
@@ -52,7 +52,7 @@ enum-told-2 c = search rules
 greatest-requires : tie.Need-greatest-g-requires
 greatest-requires c κs = search rules
 
-enum-told-3 : tie.Need-enum_told-in-Refused-og
+enum-told-3 : tie.Need-enum_told-in-Err-og
 enum-told-3 c = search rules
 
 add-refused : tie.Need-overflow_add-d
@@ -62,15 +62,15 @@ add-refused c =
     let d = t in
     omega (arith, derivative-few (terms_of d.args.f) (some d.before.before.before.before.before.before.before) (short d.before.before.before.before.before.before.before.before.before) d.differentiate-d.result d.differentiate-d.ensures, divisor-few (terms_of d.args.f) (some d.before.before.before.before.before.before.before) (short d.before.before.before.before.before.before.before.before.before) d.differentiate-d.result d.differentiate-d.ensures t.in_default.is g.greatest-g.result g.greatest-g.ensures)
 
-refused-requires-2 : tie.Need-refused-requires-in-Refused-og
+refused-requires-2 : tie.Need-refused-requires-in-Err-og
 refused-requires-2 c κs = search rules
 
-returns-3 : tie.Need-returns-in-Refused-og
+returns-3 : tie.Need-returns-in-Err-og
 returns-3 c =
     let g = c in
     let t = g in
     let d = t in
-    c.refused-in-Refused-og.ensures ∙ divisor-refused (terms_of d.args.f) (some d.before.before.before.before.before.before.before.before) (short d.before.before.before.before.before.before.before.before.before.before) d.differentiate-d.result d.differentiate-d.ensures t.in_default.is g.greatest-g.result g.greatest-g.ensures _ c.in-Refused-og.is
+    c.refused-in-Err-og.ensures ∙ divisor-refused (terms_of d.args.f) (some d.before.before.before.before.before.before.before.before) (short d.before.before.before.before.before.before.before.before.before.before) d.differentiate-d.result d.differentiate-d.ensures t.in_default.is g.greatest-g.result g.greatest-g.ensures _ c.in-Err-og.is
 
 enum-told-4 : tie.Need-enum_told-in_default-og
 enum-told-4 c = search rules

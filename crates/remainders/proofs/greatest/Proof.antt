@@ -39,12 +39,12 @@ enum_told c = search rules
 refused-requires : tie.Need-refused-requires invariant-loop decreases-loop
 refused-requires c κs = tt
 
-returns : tie.Need-returns-in-Refused invariant-loop decreases-loop
+returns : tie.Need-returns-in-Err invariant-loop decreases-loop
 returns c =
     let d = c in
     let l = d in
     let s = l.args in
-    c.refused.ensures ∙ dividing-refused (terms_of s.a) (terms_of s.b) (terms_of l.loop-v.u) (terms_of l.loop-v.v) l.loop-v.steps l.loop-v.invariant d.divide-d.result (omega (arith, d.length.ensures)) d.divide-d.ensures _ c.in-Refused.is
+    c.refused.ensures ∙ dividing-refused (terms_of s.a) (terms_of s.b) (terms_of l.loop-v.u) (terms_of l.loop-v.v) l.loop-v.steps l.loop-v.invariant d.divide-d.result (omega (arith, d.length.ensures)) d.divide-d.ensures _ c.in-Err.is
 
 enum-told-2 : tie.Need-enum_told-in_default invariant-loop decreases-loop
 enum-told-2 c = search rules

@@ -46,7 +46,7 @@ returns-2 c =
     let b = c in
     let a = b in
     let s = a.args in
-    c.no_number-in_default-checked_mul.ensures ∙ second-over s.sign s.power s.inner s.steps _ _ (sym a.checked_mul.ensures.0 ∙ b.in-Done.is) (sym b.checked_mul-2.ensures.0 ∙ c.in_default-checked_mul.is)
+    c.no_number-in_default-checked_mul.ensures ∙ second-over s.sign s.power s.inner s.steps _ _ (sym a.checked_mul.ensures.0 ∙ b.in-Ok.is) (sym b.checked_mul-2.ensures.0 ∙ c.in_default-checked_mul.is)
 
 add-worked : tie.Need-overflow_add-steps-2
 add-worked c = search rules
@@ -59,7 +59,7 @@ returns-3 c =
     let b = c in
     let a = b in
     let s = a.args in
-    c.worked.ensures ∙ joined-all s.sign s.power s.inner s.steps _ _ (sym a.checked_mul.ensures.0 ∙ b.in-Done.is) (sym b.checked_mul-2.ensures.0 ∙ c.in-Done-checked_mul.is)
+    c.worked.ensures ∙ joined-all s.sign s.power s.inner s.steps _ _ (sym a.checked_mul.ensures.0 ∙ b.in-Ok.is) (sym b.checked_mul-2.ensures.0 ∙ c.in-Ok-checked_mul.is)
 
 pub join_spec : {M : Type 1} → statement M
 join_spec =

@@ -1,6 +1,6 @@
 -- `remainders::no_division` meets its contract.
+use Rattle.std.specs.Prelude.{Err}
 use mathlib.Core.Path.{ap₂}
-use Rattle.ratio.specs.declared.Outcome.TheVariants.{Refused}
 use Rattle.terms.specs.declared.Poly.{Poly}
 use Rattle.remainders.specs.declared.Division.{Division}
 use borrow.Author.Rules.{rules}
@@ -16,7 +16,7 @@ zero-requires-2 c κs = search rules
 returns : tie.Need-returns
 returns c =
     let s = c.args in
-    ap₂ {C = Division} (λ (p q : Poly). record { outcome = Refused s.why; quotient = p; rest = q; steps = s.steps }) c.zero.ensures c.zero-2.ensures
+    ap₂ {C = Division} (λ (p q : Poly). record { outcome = Err s.why; quotient = p; rest = q; steps = s.steps }) c.zero.ensures c.zero-2.ensures
 
 pub no_division_spec : {M : Type 1} → statement M
 no_division_spec = tie.close (tie.spec zero-requires zero-requires-2 returns)

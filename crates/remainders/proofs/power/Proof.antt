@@ -52,7 +52,7 @@ loop-again c =
     let m = c in
     let l = m in
     let s = l.args in
-    (omega arith, powered-more s.c s.k l.loop-i.i l.loop-i.r (omega arith) l.loop-i.invariant.1 _ (sym m.checked_mul.ensures.0 ∙ c.in-Done.is))
+    (omega arith, powered-more s.c s.k l.loop-i.i l.loop-i.r (omega arith) l.loop-i.invariant.1 _ (sym m.checked_mul.ensures.0 ∙ c.in-Ok.is))
 
 worked-requires : tie.Need-worked-requires invariant-loop decreases-loop
 worked-requires c κs = tt

@@ -1,4 +1,5 @@
 -- `remainders::quotients` meets its contract. The loop's invariant: what is left of the terms gives the whole division.
+use Rattle.std.specs.Prelude.{Ok}
 use mathlib.Core.Path.{◌≡◌, refl, sym, ap, ap₂, ◌∙◌}
 use mathlib.Core.List.{List}
 use Prim.Native.Nat.{◌≤◌}
@@ -6,9 +7,8 @@ use native.Mathlib.Omega.{arith}
 use lib.ListN.{length, take, replicate}
 use borrow.Author.Rules.{rules}
 use borrow.Author.Tests.{not-true, not-false}
-use Rattle.ratio.specs.Refusal.{ratio_of}
+use Rattle.ratio.specs.Refusal.{ratio_of, no_refusal}
 use Rattle.ratio.specs.Step.{inv_of}
-use Rattle.ratio.specs.declared.Outcome.TheVariants as O
 use Rattle.ratio.specs.declared.Ratio.{Ratio}
 use Rattle.terms.specs.declared.Poly.{Poly}
 use Rattle.terms.specs.Poly.{terms_of}
@@ -139,7 +139,7 @@ returns-2 c =
     let s = n.args in
     let dividend = take n.length-n.result s.a.coeffs in
     c.no_division-then-not-row.ensures
-    ∙ row-refused dividend (terms_of s.b) n.length-n.result l.length-m.result l.inverse-inv.result l.loop-k.k l.loop-k.steps l.loop-k.rem l.loop-k.quot l.loop-k.invariant (omega arith) _ r.row_for-row.result (sym m.checked_mul.ensures.0 ∙ r.in-Done.is) r.row_for-row.ensures (not-true _ c.if-not-row.true)
+    ∙ row-refused dividend (terms_of s.b) n.length-n.result l.length-m.result l.inverse-inv.result l.loop-k.k l.loop-k.steps l.loop-k.rem l.loop-k.quot l.loop-k.invariant (omega arith) _ r.row_for-row.result (sym m.checked_mul.ensures.0 ∙ r.in-Ok.is) r.row_for-row.ensures (not-true _ c.if-not-row.true)
     ∙ ap (λ (t : List Ratio). divided_of t (terms_of s.b)) (same n.before.before.before.before.before.before.before.before.before.before.before.before.before.before)
 
 mul-quot : tie.Need-offset_bounds-quot-k invariant-loop decreases-loop
@@ -159,7 +159,7 @@ loop-again c =
     let n = l in
     let s = n.args in
     let dividend = take n.length-n.result s.a.coeffs in
-    left_less dividend (terms_of s.b) n.length-n.result l.length-m.result l.inverse-inv.result l.loop-k.k l.loop-k.steps l.loop-k.rem l.loop-k.quot l.loop-k.invariant (omega arith) _ r.row_for-row.result (sym m.checked_mul.ensures.0 ∙ r.in-Done.is) r.row_for-row.ensures (not-false _ c.if-not-row.false)
+    left_less dividend (terms_of s.b) n.length-n.result l.length-m.result l.inverse-inv.result l.loop-k.k l.loop-k.steps l.loop-k.rem l.loop-k.quot l.loop-k.invariant (omega arith) _ r.row_for-row.result (sym m.checked_mul.ensures.0 ∙ r.in-Ok.is) r.row_for-row.ensures (not-false _ c.if-not-row.false)
 
 sub-t16 : tie.Need-overflow_sub-quotient invariant-loop decreases-loop
 sub-t16 c = omega (arith, c.loop-k.invariant)
@@ -182,7 +182,7 @@ returns-3 c =
     let n = l in
     let s = n.args in
     let dividend = take n.length-n.result s.a.coeffs in
-    ap₂ {C = Division} (λ (p q : Poly). record { outcome = O.Done; quotient = p; rest = q; steps = l.loop-k.steps }) c.normalise.ensures c.normalise-2.ensures
+    ap₂ {C = Division} (λ (p q : Poly). record { outcome = no_refusal; quotient = p; rest = q; steps = l.loop-k.steps }) c.normalise.ensures c.normalise-2.ensures
     ∙ left-none dividend (terms_of s.b) n.length-n.result l.length-m.result l.inverse-inv.result l.loop-k.k l.loop-k.steps l.loop-k.rem l.loop-k.quot l.loop-k.invariant (omega arith)
     ∙ ap (λ (t : List Ratio). divided_of t (terms_of s.b)) (same n.before.before.before.before.before.before.before.before.before)
 

@@ -36,11 +36,11 @@ enum_told c = search rules
 no-number-requires : tie.Need-no_number-requires
 no-number-requires c κs = search rules
 
-returns : tie.Need-returns-in-Refused
+returns : tie.Need-returns-in-Err
 returns c =
     let r = c in
     let s = r in
-    c.no_number.ensures ∙ swapped-refused (terms_of s.args.a) (terms_of s.args.b) s.requires.0 s.requires.1 r.ordered-r.result r.ordered-r.ensures _ c.in-Refused.is
+    c.no_number.ensures ∙ swapped-refused (terms_of s.args.a) (terms_of s.args.b) s.requires.0 s.requires.1 r.ordered-r.result r.ordered-r.ensures _ c.in-Err.is
 
 enum-told-2 : tie.Need-enum_told-in_default
 enum-told-2 c = search rules
@@ -94,7 +94,7 @@ returns-3 c =
     let m = c in
     let r = m in
     let s = r in
-    c.worked.ensures ∙ sign-made (terms_of s.args.a) (terms_of s.args.b) s.requires.0 s.requires.1 r.ordered-r.result r.ordered-r.ensures m.in_default.is _ _ _ r.length-n.ensures r.length-m.ensures m.sign.ensures _ (sym m.checked_mul.ensures.0 ∙ c.in-Done.is)
+    c.worked.ensures ∙ sign-made (terms_of s.args.a) (terms_of s.args.b) s.requires.0 s.requires.1 r.ordered-r.result r.ordered-r.ensures m.in_default.is _ _ _ r.length-n.ensures r.length-m.ensures m.sign.ensures _ (sym m.checked_mul.ensures.0 ∙ c.in-Ok.is)
 
 pub swapped_spec : {M : Type 1} → statement M
 swapped_spec =

@@ -28,26 +28,26 @@ enum-known-o c = search rules
 refuse-requires : tie.Need-refuse-requires
 refuse-requires c κs = tt
 
-same_length : tie.Need-shape_of-out-in-Done
+same_length : tie.Need-shape_of-out-in-Ok
 same_length c = search rules
 
-returns : tie.Need-returns-in-Done
+returns : tie.Need-returns-in-Ok
 returns c =
     let s = c.args in
     let x = s.c in
     let e =
-    shows-one s.op 0 x.outcome (decimal_of x.count) [] s.at s.out.now c.in-Done.is
+    shows-one s.op 0 x.outcome (decimal_of x.count) [] s.at s.out.now c.in-Ok.is
     (lays-then _ _ _ _ c.begin-first.ensures (lays-then _ _ _ _ c.write_decimal-behind.ensures c.end.ensures)) in
     (e.0, (e.1, shown-fits s.op x.outcome 0 (decimal_of x.count) [] (omega (arith, decimal-length x.count))))
 
-same-length-2 : tie.Need-shape_of-out-in-Refused
+same-length-2 : tie.Need-shape_of-out-in-Err
 same-length-2 c = search rules
 
-returns-2 : tie.Need-returns-in-Refused
+returns-2 : tie.Need-returns-in-Err
 returns-2 c =
     let s = c.args in
     let x = s.c in
-    let e = shows-refused s.op 0 x.outcome (decimal_of x.count) [] s.at s.out.now c.in-Refused.why c.in-Refused.is c.refuse.ensures in
+    let e = shows-refused s.op 0 x.outcome (decimal_of x.count) [] s.at s.out.now c.in-Err.why c.in-Err.is c.refuse.ensures in
     (e.0, (e.1, shown-fits s.op x.outcome 0 (decimal_of x.count) [] (omega (arith, decimal-length x.count))))
 
 pub show_count_spec : {M : Type 1} → statement M

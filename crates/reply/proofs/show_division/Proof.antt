@@ -36,10 +36,10 @@ enum-known-o c = search rules
 refuse-requires : tie.Need-refuse-requires
 refuse-requires c κs = tt
 
-same_length : tie.Need-shape_of-out-in-Done
+same_length : tie.Need-shape_of-out-in-Ok
 same_length c = search rules
 
-returns : tie.Need-returns-in-Done
+returns : tie.Need-returns-in-Ok
 returns c =
     let t = c in
     let s = t.args in
@@ -47,23 +47,23 @@ returns c =
     let q : length x.quotient.coeffs ≡ 32 = search (rules, long) in
     let r : length x.rest.coeffs ≡ 32 = search (rules, long) in
     let e =
-    shows-both s.op x.steps x.outcome (poly_text (terms_of x.quotient)) (poly_text (terms_of x.rest)) s.at s.out.now c.in-Done.is
+    shows-both s.op x.steps x.outcome (poly_text (terms_of x.quotient)) (poly_text (terms_of x.rest)) s.at s.out.now c.in-Ok.is
     (lays-then _ _ _ _ c.begin-first.ensures (
     lays-then _ _ _ _ c.write_poly-behind.ensures (
     lays-then _ _ _ _ c.write_bytes-second.ensures (
     lays-then _ _ _ _ c.write_poly-last.ensures c.finish.ensures)))) in
     (e.0, (e.1, shown-fits s.op x.outcome x.steps (poly_text (terms_of x.quotient)) (poly_text (terms_of x.rest)) (omega (arith, poly-room x.quotient q, poly-room x.rest r))))
 
-same-length-2 : tie.Need-shape_of-out-in-Refused
+same-length-2 : tie.Need-shape_of-out-in-Err
 same-length-2 c = search rules
 
-returns-2 : tie.Need-returns-in-Refused
+returns-2 : tie.Need-returns-in-Err
 returns-2 c =
     let s = c.args in
     let x = s.d in
     let q : length x.quotient.coeffs ≡ 32 = search (rules, long) in
     let r : length x.rest.coeffs ≡ 32 = search (rules, long) in
-    let e = shows-refused s.op x.steps x.outcome (poly_text (terms_of x.quotient)) (poly_text (terms_of x.rest)) s.at s.out.now c.in-Refused.why c.in-Refused.is c.refuse.ensures in
+    let e = shows-refused s.op x.steps x.outcome (poly_text (terms_of x.quotient)) (poly_text (terms_of x.rest)) s.at s.out.now c.in-Err.why c.in-Err.is c.refuse.ensures in
     (e.0, (e.1, shown-fits s.op x.outcome x.steps (poly_text (terms_of x.quotient)) (poly_text (terms_of x.rest)) (omega (arith, poly-room x.quotient q, poly-room x.rest r))))
 
 pub show_division_spec : {M : Type 1} → statement M

@@ -81,7 +81,7 @@ add-stopped c =
     let o = e in
     let v = o.open-v.result in
     let s = o.args in
-    omega (arith, placed s.text.now v (stands o.before.before.before.before.before.before) e.part_end-end.result e.part_end-end.ensures r.read_poly-r.result r.read_poly-r.ensures.0 c.in-Refused.is _ c.in-Malformed.is, o.requires.1)
+    omega (arith, placed s.text.now v (stands o.before.before.before.before.before.before) e.part_end-end.result e.part_end-end.ensures r.read_poly-r.result r.read_poly-r.ensures.0 c.in-Err.is _ c.in-Malformed.is, o.requires.1)
 
 stopped-requires : tie.Need-stopped-requires
 stopped-requires c κs = tt
@@ -103,7 +103,7 @@ returns-4 c =
     let o = e in
     let v = o.open-v.result in
     let s = o.args in
-    c.no_poly-in-Malformed.ensures ∙ ap no_poly c.stopped.ensures ∙ poly-wanted s.text.now s.c s.key.now s.wanted (not-false s.wanted o.if-not-wanted.false-raw) v o.open-v.ensures (poly-malformed s.text.now v e.if-v.false e.part_end-end.result e.part_end-end.ensures r.read_poly-r.result r.read_poly-r.ensures.0 k.in-Refused.is _ k.in-Malformed.is)
+    c.no_poly-in-Malformed.ensures ∙ ap no_poly c.stopped.ensures ∙ poly-wanted s.text.now s.c s.key.now s.wanted (not-false s.wanted o.if-not-wanted.false-raw) v o.open-v.ensures (poly-malformed s.text.now v e.if-v.false e.part_end-end.result e.part_end-end.ensures r.read_poly-r.result r.read_poly-r.ensures.0 k.in-Err.is _ k.in-Malformed.is)
 
 returns-5 : tie.Need-returns-in_default-why
 returns-5 c =
@@ -113,7 +113,7 @@ returns-5 c =
     let o = e in
     let v = o.open-v.result in
     let s = o.args in
-    c.no_poly-in_default-why.ensures ∙ ap no_poly c.close-in_default-why.ensures ∙ poly-wanted s.text.now s.c s.key.now s.wanted (not-false s.wanted o.if-not-wanted.false-raw) v o.open-v.ensures (poly-long s.text.now v e.if-v.false e.part_end-end.result e.part_end-end.ensures r.read_poly-r.result r.read_poly-r.ensures.0 _ m.in-Refused.is m.in_default-why.in_default-why-own.keys2)
+    c.no_poly-in_default-why.ensures ∙ ap no_poly c.close-in_default-why.ensures ∙ poly-wanted s.text.now s.c s.key.now s.wanted (not-false s.wanted o.if-not-wanted.false-raw) v o.open-v.ensures (poly-long s.text.now v e.if-v.false e.part_end-end.result e.part_end-end.ensures r.read_poly-r.result r.read_poly-r.ensures.0 _ m.in-Err.is m.in_default-why.in_default-why-own.keys2)
 
 pub poly_line_spec : {M : Type 1} → statement M
 poly_line_spec =

@@ -64,10 +64,10 @@ enum_told c = search rules
 stopped-requires : tie.Need-stopped-requires
 stopped-requires c κs = tt
 
-no-ratio-requires-3 : tie.Need-no_ratio-requires-in-Refused
+no-ratio-requires-3 : tie.Need-no_ratio-requires-in-Err
 no-ratio-requires-3 c κs = tt
 
-returns-3 : tie.Need-returns-in-Done
+returns-3 : tie.Need-returns-in-Ok
 returns-3 c =
     let r = c in
     let e = r in
@@ -76,18 +76,18 @@ returns-3 c =
     let s = o.args in
     rw c.close.ensures
     (ratio-wanted s.text.now s.c s.key.now s.wanted (not-false s.wanted o.if-not-wanted.false-raw) v o.open-v.ensures
-    (ratio-done s.text.now v e.if-v.false e.part_end-end.result e.part_end-end.ensures _ refl _ (sym r.read_ratio.ensures.0 ∙ c.in-Done.is)))
+    (ratio-done s.text.now v e.if-v.false e.part_end-end.result e.part_end-end.ensures _ refl _ (sym r.read_ratio.ensures.0 ∙ c.in-Ok.is)))
 
-returns-4 : tie.Need-returns-in-Refused
+returns-4 : tie.Need-returns-in-Err
 returns-4 c =
     let r = c in
     let e = r in
     let o = e in
     let v = o.open-v.result in
     let s = o.args in
-    c.no_ratio-in-Refused.ensures ∙ ap no_ratio c.stopped.ensures
+    c.no_ratio-in-Err.ensures ∙ ap no_ratio c.stopped.ensures
     ∙ ratio-wanted s.text.now s.c s.key.now s.wanted (not-false s.wanted o.if-not-wanted.false-raw) v o.open-v.ensures
-    (ratio-refused s.text.now v e.if-v.false e.part_end-end.result e.part_end-end.ensures _ refl (sym r.read_ratio.ensures.0 ∙ c.in-Refused.is))
+    (ratio-refused s.text.now v e.if-v.false e.part_end-end.result e.part_end-end.ensures _ refl (sym r.read_ratio.ensures.0 ∙ c.in-Err.is))
 
 pub ratio_line_spec : {M : Type 1} → statement M
 ratio_line_spec =

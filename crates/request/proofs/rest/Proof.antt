@@ -75,12 +75,12 @@ enum-known-o c = search rules
 refused-requires : tie.Need-refused-requires
 refused-requires c κs = tt
 
-returns : tie.Need-returns-in-Refused
+returns : tie.Need-returns-in-Err
 returns c =
     let f = c in
     let t = f in
     let s = t in
-    c.refused.ensures ∙ made-refused s.args.text.now s.args.op s.requires.1 t.interval_lines-i.result t.interval_lines-i.ensures (sym f.finish-o.ensures ∙ c.in-Refused.is)
+    c.refused.ensures ∙ made-refused s.args.text.now s.args.op s.requires.1 t.interval_lines-i.result t.interval_lines-i.ensures (sym f.finish-o.ensures ∙ c.in-Err.is)
 
 enum_told : tie.Need-enum_told-1
 enum_told c = search rules

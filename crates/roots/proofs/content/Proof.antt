@@ -1,6 +1,6 @@
 -- `roots::content` meets its contract.
+use Rattle.std.specs.Prelude.{Ok}
 use mathlib.Core.Path.{sym, ap, ◌∙◌}
-use Rattle.ratio.specs.declared.Step.TheVariants.{Done}
 use Rattle.poly.proofs.Doors.{open_step, shut-step}
 use Rattle.roots.proofs.Contents.{content-both}
 use Rattle.roots.proofs.content.Statement.{statement}
@@ -21,7 +21,7 @@ reason-requires c κs = tt
 returns : tie.Need-returns-in-Open
 returns c =
     let g = c in
-    content-both g.args.p _ (open_step g.door-d.result _ g.door-d.ensures c.in-Open.is _ (Done c.content_terms.result) (ap Done c.content_terms.ensures))
+    content-both g.args.p _ (open_step g.door-d.result _ g.door-d.ensures c.in-Open.is _ (Ok c.content_terms.result) (ap Ok c.content_terms.ensures))
 
 returns-2 : tie.Need-returns-in_default
 returns-2 c =

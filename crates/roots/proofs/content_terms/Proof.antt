@@ -101,7 +101,7 @@ returns-2 c =
     let m = c in
     let l = m in
     let s = l.args.p in
-    sym (ap ratio_of (made m.before ∙ c.in-Done.is)) ∙ gathering-all (terms_of s) l.loop-i.i l.loop-i.num l.loop-i.den (omega arith) l.loop-i.invariant.3
+    sym (ap ratio_of (made m.before ∙ c.in-Ok.is)) ∙ gathering-all (terms_of s) l.loop-i.i l.loop-i.num l.loop-i.den (omega arith) l.loop-i.invariant.3
 
 pub content_terms_spec : {M : Type 1} → statement M
 content_terms_spec =

@@ -41,7 +41,7 @@ returns-2 : tie.Need-returns
 returns-2 c =
     let s = c in
     let m = s in
-    c.turned.ensures ∙ ap upright s.scale.ensures ∙ sym (ap (over_content m.args.p) (inverse m.before.before.before ∙ s.in-Done.is))
+    c.turned.ensures ∙ ap upright s.scale.ensures ∙ sym (ap (over_content m.args.p) (inverse m.before.before.before ∙ s.in-Ok.is))
 
 pub primitive_terms_spec : {M : Type 1} → statement M
 primitive_terms_spec =

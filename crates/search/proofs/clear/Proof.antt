@@ -92,7 +92,7 @@ loop-again c =
       omega arith,
       length-set l.loop-i.out.coeffs l.loop-i.i _ ∙ l.loop-i.invariant.3,
       l.loop-i.invariant.4,
-      clearing-more s.m (terms_of s.p) l.loop-i.i l.loop-i.out.coeffs _ (omega arith) (omega arith) (step m.before ∙ c.in-Done.is) l.loop-i.invariant.5,
+      clearing-more s.m (terms_of s.p) l.loop-i.i l.loop-i.out.coeffs _ (omega arith) (omega arith) (step m.before ∙ c.in-Ok.is) l.loop-i.invariant.5,
       unfilled-more l.loop-i.i l.loop-i.out.coeffs _ (omega arith) l.loop-i.invariant.6,
     )
 

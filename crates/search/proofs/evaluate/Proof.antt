@@ -87,7 +87,7 @@ returns-2 c =
     let l = m in
     let s = l.args in
     c.over-in_default-checked_add.ensures ∙ ap valued_of
-    (second-over (terms_of s.p) s.x s.steps l.loop-i.i l.loop-i.power l.loop-i.sum l.loop-i.count (omega arith) l.loop-i.invariant.5 _ _ (read m.before.before.before.before ∙ a.in-Done.is)
+    (second-over (terms_of s.p) s.x s.steps l.loop-i.i l.loop-i.power l.loop-i.sum l.loop-i.count (omega arith) l.loop-i.invariant.5 _ _ (read m.before.before.before.before ∙ a.in-Ok.is)
     (sym a.checked_add.ensures.0 ∙ c.in_default-checked_add.is))
 
 checked-mul-requires-2 : tie.Need-checked_mul-requires-in-loop-i invariant-loop decreases-loop
@@ -113,8 +113,8 @@ returns-3 c =
     let l = m in
     let s = l.args in
     c.over-in_default-checked_mul.ensures ∙ ap valued_of
-    (third-over (terms_of s.p) s.x s.steps l.loop-i.i l.loop-i.power l.loop-i.sum l.loop-i.count (omega arith) l.loop-i.invariant.5 _ _ _ (read m.before.before.before.before.before.before ∙ a.in-Done.is)
-    (sym a.checked_add.ensures.0 ∙ b.in-Done-checked_add.is) (sym b.checked_mul-in-loop-i.ensures.0 ∙ c.in_default-checked_mul.is))
+    (third-over (terms_of s.p) s.x s.steps l.loop-i.i l.loop-i.power l.loop-i.sum l.loop-i.count (omega arith) l.loop-i.invariant.5 _ _ _ (read m.before.before.before.before.before.before ∙ a.in-Ok.is)
+    (sym a.checked_add.ensures.0 ∙ b.in-Ok-checked_add.is) (sym b.checked_mul-in-loop-i.ensures.0 ∙ c.in_default-checked_mul.is))
 
 add-count : tie.Need-overflow_add-count-in-loop-i invariant-loop decreases-loop
 add-count c = omega arith
@@ -137,8 +137,8 @@ loop-again c =
       omega arith,
       omega arith,
       l.loop-i.invariant.4,
-      valuing-more (terms_of s.p) s.x s.steps l.loop-i.i l.loop-i.power l.loop-i.sum l.loop-i.count (omega arith) l.loop-i.invariant.5 _ _ _ (read m.before.before.before.before.before ∙ a.in-Done.is)
-          (sym a.checked_add.ensures.0 ∙ b.in-Done-checked_add.is) (sym b.checked_mul-in-loop-i.ensures.0 ∙ c.in-Done-checked_mul.is),
+      valuing-more (terms_of s.p) s.x s.steps l.loop-i.i l.loop-i.power l.loop-i.sum l.loop-i.count (omega arith) l.loop-i.invariant.5 _ _ _ (read m.before.before.before.before.before ∙ a.in-Ok.is)
+          (sym a.checked_add.ensures.0 ∙ b.in-Ok-checked_add.is) (sym b.checked_mul-in-loop-i.ensures.0 ∙ c.in-Ok-checked_mul.is),
     )
 
 returns-4 : tie.Need-returns invariant-loop decreases-loop

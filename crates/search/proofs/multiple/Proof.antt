@@ -70,7 +70,7 @@ loop-again c =
     let m = c in
     let l = m in
     let s = l.args in
-    (l.loop-i.invariant.0, l.loop-i.invariant.1, widened_more (terms_of s.p) l.loop-i.i l.loop-i.m (omega arith) l.loop-i.invariant.2 _ (step m.before ∙ c.in-Done.is))
+    (l.loop-i.invariant.0, l.loop-i.invariant.1, widened_more (terms_of s.p) l.loop-i.i l.loop-i.m (omega arith) l.loop-i.invariant.2 _ (step m.before ∙ c.in-Ok.is))
 
 returns-2 : tie.Need-returns invariant-loop decreases-loop
 returns-2 c =

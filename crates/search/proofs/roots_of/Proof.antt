@@ -72,11 +72,11 @@ clear-requires : tie.Need-clear-c-requires
 clear-requires c κs =
     let m = c in
     let s = m.args in
-    multiple-within (trim (terms_of s.p)) (whole_r (pos 1)) _ (omega arith) (multiple-is m.before ∙ c.in-Done.is)
+    multiple-within (trim (terms_of s.p)) (whole_r (pos 1)) _ (omega arith) (multiple-is m.before ∙ c.in-Ok.is)
 
 -- the whole coefficients
-cleared : (c : tie.After-clear-c) → c.clear-c.result ≡ clear_of (cleared_by c.in-Done.m (trim (terms_of c.args.p)))
-cleared c = c.clear-c.ensures ∙ ap (λ (l : List Ratio). clear_of (cleared_by c.in-Done.m l)) (trimmed c.before.before.before.before.before)
+cleared : (c : tie.After-clear-c) → c.clear-c.result ≡ clear_of (cleared_by c.in-Ok.m (trim (terms_of c.args.p)))
+cleared c = c.clear-c.ensures ∙ ap (λ (l : List Ratio). clear_of (cleared_by c.in-Ok.m l)) (trimmed c.before.before.before.before.before)
 
 no-roots-requires-2 : tie.Need-no_roots-requires-then-not-c
 no-roots-requires-2 c κs = tt
@@ -88,7 +88,7 @@ returns-3 c =
     let m = e in
     let s = m.args in
     c.no_roots-then-not-c.ensures
-    ∙ clear-over (trim (terms_of s.p)) s.budget (some m.before.before.before.before.before.before) _ (multiple-is m.before.before.before.before.before ∙ e.in-Done.is) e.clear-c.result (cleared e.before.before.before) (not-true _ i.if-not-c.true)
+    ∙ clear-over (trim (terms_of s.p)) s.budget (some m.before.before.before.before.before.before) _ (multiple-is m.before.before.before.before.before ∙ e.in-Ok.is) e.clear-c.result (cleared e.before.before.before) (not-true _ i.if-not-c.true)
 
 search-whole-requires : tie.Need-search_whole-requires
 search-whole-requires c κs = tt
@@ -100,7 +100,7 @@ returns-4 c =
     let m = e in
     let s = m.args in
     c.search_whole.ensures
-    ∙ clear-done (trim (terms_of s.p)) s.budget (some m.before.before.before.before.before.before.before) _ (multiple-is m.before.before.before.before.before.before ∙ e.in-Done.is) e.clear-c.result (cleared e.before.before.before.before) (not-false _ i.if-not-c.false)
+    ∙ clear-done (trim (terms_of s.p)) s.budget (some m.before.before.before.before.before.before.before) _ (multiple-is m.before.before.before.before.before.before ∙ e.in-Ok.is) e.clear-c.result (cleared e.before.before.before.before) (not-false _ i.if-not-c.false)
 
 pub roots_of_spec : {M : Type 1} → statement M
 roots_of_spec =

@@ -66,7 +66,7 @@ leading c =
     ∙ ap (λ (r : Ratio). r.num) (d.coefficient-lead.ensures ∙ ap (λ (i : ℕ). get_or (terms_of s.p) i zero_r) (n.less_one.ensures ∙ ap (λ (k : ℕ). k - 1) n.length.ensures)))
     c.integer_factors-second.ensures
 
-returns : tie.Need-returns-in-Done
+returns : tie.Need-returns-in-Ok
 returns c =
     let a = c in
     let t = a in
@@ -76,15 +76,15 @@ returns c =
     let l = listed f.integer_factors-second.result in
     c.answer.ensures ∙ ap answer_for a.try_all.ensures
     ∙ ap₂ (λ n kept. answered (try_all (terms_of s.p) (listed s.first) l n kept)) (count-is nothing (started s.zero) t.start.result t.start.ensures) (kept-is nothing (started s.zero) t.start.result t.start.ensures)
-    ∙ listed-done (get_or (terms_of s.p) (length (terms_of s.p) - 1) zero_r).num s.budget (λ qs. answered (try_all (terms_of s.p) (listed s.first) qs nothing (started s.zero))) f.integer_factors-second.result k.0 k.1 t.in-Done.is
+    ∙ listed-done (get_or (terms_of s.p) (length (terms_of s.p) - 1) zero_r).num s.budget (λ qs. answered (try_all (terms_of s.p) (listed s.first) qs nothing (started s.zero))) f.integer_factors-second.result k.0 k.1 t.in-Ok.is
 
-returns-2 : tie.Need-returns-in-Refused
+returns-2 : tie.Need-returns-in-Err
 returns-2 c =
     let f = c in
     let s = f.args in
     let k = leading f.before.before in
     c.no_roots.ensures
-    ∙ listed-refused (get_or (terms_of s.p) (length (terms_of s.p) - 1) zero_r).num s.budget (λ qs. answered (try_all (terms_of s.p) (listed s.first) qs nothing (started s.zero))) f.integer_factors-second.result k.0 _ c.in-Refused.is
+    ∙ listed-refused (get_or (terms_of s.p) (length (terms_of s.p) - 1) zero_r).num s.budget (λ qs. answered (try_all (terms_of s.p) (listed s.first) qs nothing (started s.zero))) f.integer_factors-second.result k.0 _ c.in-Err.is
 
 pub search_below_spec : {M : Type 1} → statement M
 search_below_spec =

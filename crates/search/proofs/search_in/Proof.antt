@@ -42,23 +42,23 @@ constant c =
     (to_z-of_z {w = Rattle.std.proofs.Common.w64} {z = d.coefficient-constant.result.num} (record { sfits = c.struct_told-1.given.0.1 }) ∙ ap (λ (r : Ratio). r.num) d.coefficient-constant.ensures)
     c.integer_factors-first.ensures
 
-returns : tie.Need-returns-in-Done
+returns : tie.Need-returns-in-Ok
 unfolding searched_in
 returns c =
     let f = c in
     let s = f.args in
     let k = constant f.before.before in
     c.search_below.ensures
-    ∙ listed-done (get_or (terms_of s.p) 0 zero_r).num s.budget (λ ps. searched_below (terms_of s.p) s.zero s.budget ps) f.integer_factors-first.result k.0 k.1 c.in-Done.is
+    ∙ listed-done (get_or (terms_of s.p) 0 zero_r).num s.budget (λ ps. searched_below (terms_of s.p) s.zero s.budget ps) f.integer_factors-first.result k.0 k.1 c.in-Ok.is
 
-returns-2 : tie.Need-returns-in-Refused
+returns-2 : tie.Need-returns-in-Err
 unfolding searched_in
 returns-2 c =
     let f = c in
     let s = f.args in
     let k = constant f.before.before in
     c.no_roots.ensures
-    ∙ listed-refused (get_or (terms_of s.p) 0 zero_r).num s.budget (λ ps. searched_below (terms_of s.p) s.zero s.budget ps) f.integer_factors-first.result k.0 _ c.in-Refused.is
+    ∙ listed-refused (get_or (terms_of s.p) 0 zero_r).num s.budget (λ ps. searched_below (terms_of s.p) s.zero s.budget ps) f.integer_factors-first.result k.0 _ c.in-Err.is
 
 pub search_in_spec : {M : Type 1} → statement M
 search_in_spec =

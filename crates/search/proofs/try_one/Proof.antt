@@ -62,7 +62,7 @@ returns-3 c =
     let v = i in
     let m = v in
     let s = m in
-    c.halted-then-not-v.ensures ∙ one-over (terms_of s.args.p) s.args.n s.args.d s.args.t s.requires.0 _ (some m.before.before.before.before.before.before.before) (candidate m.before.before.before.before.before.before ∙ v.in-Done.is) v.evaluate-v.result v.evaluate-v.ensures (not-true _ i.if-not-v.true)
+    c.halted-then-not-v.ensures ∙ one-over (terms_of s.args.p) s.args.n s.args.d s.args.t s.requires.0 _ (some m.before.before.before.before.before.before.before) (candidate m.before.before.before.before.before.before ∙ v.in-Ok.is) v.evaluate-v.result v.evaluate-v.ensures (not-true _ i.if-not-v.true)
 
 is-zero-requires : tie.Need-is_zero-requires
 is-zero-requires c κs = tt
@@ -78,8 +78,8 @@ returns-4 c =
     let m = v in
     let s = m in
     c.keep.ensures
-    ∙ ap (λ (b : Bool). tally_of (fine (record { tried = s.args.t.tried + 1; steps = v.evaluate-v.result.steps }) (kept_if b v.in-Done.x (kept_list s.args.t)))) z.is_zero.ensures
-    ∙ one-tried (terms_of s.args.p) s.args.n s.args.d s.args.t s.requires.0 _ (some m.before.before.before.before.before.before.before.before) (candidate m.before.before.before.before.before.before.before ∙ v.in-Done.is) v.evaluate-v.result v.evaluate-v.ensures (not-false _ i.if-not-v.false)
+    ∙ ap (λ (b : Bool). tally_of (fine (record { tried = s.args.t.tried + 1; steps = v.evaluate-v.result.steps }) (kept_if b v.in-Ok.x (kept_list s.args.t)))) z.is_zero.ensures
+    ∙ one-tried (terms_of s.args.p) s.args.n s.args.d s.args.t s.requires.0 _ (some m.before.before.before.before.before.before.before.before) (candidate m.before.before.before.before.before.before.before ∙ v.in-Ok.is) v.evaluate-v.result v.evaluate-v.ensures (not-false _ i.if-not-v.false)
 
 pub try_one_spec : {M : Type 1} → statement M
 try_one_spec =

@@ -70,13 +70,13 @@ split-enum-known-ro t c = search rules
 split-refused-requires : (t : ℕ) → split-lts.Need-refused-requires (calls t) (split_at t) split.Post
 split-refused-requires t c κs = tt
 
-split-returns-2 : (t : ℕ) → split-lts.Need-returns-in-Refused (calls t) (split_at t) split.Post
+split-returns-2 : (t : ℕ) → split-lts.Need-returns-in-Err (calls t) (split_at t) split.Post
 split-returns-2 t c =
     let z = c in
     let s = z.args in
     let n = c in
     let r = c in
-    splits-refused (terms_of s.f) s.times s.budget s.found z.requires.1.0 (omega (arith, n.length-n.ensures)) r.roots_of-roots.result r.roots_of-roots.ensures _ c.in-Refused.is c.refused.result c.refused.ensures
+    splits-refused (terms_of s.f) s.times s.budget s.found z.requires.1.0 (omega (arith, n.length-n.ensures)) r.roots_of-roots.result r.roots_of-roots.ensures _ c.in-Err.is c.refused.result c.refused.ensures
 
 split-enum-told : (t : ℕ) → split-lts.Need-enum_told-1 (calls t) (split_at t) split.Post
 split-enum-told t c = search rules
@@ -142,17 +142,17 @@ split-halve-requires t c κs = tt
 split-enum-known-po : (t : ℕ) → split-lts.Need-enum_known-po (calls t) (split_at t) split.Post
 split-enum-known-po t c = search rules
 
-split-refused-requires-2 : (t : ℕ) → split-lts.Need-refused-requires-in-Refused-po (calls t) (split_at t) split.Post
+split-refused-requires-2 : (t : ℕ) → split-lts.Need-refused-requires-in-Err-po (calls t) (split_at t) split.Post
 split-refused-requires-2 t c κs = tt
 
-split-returns-6 : (t : ℕ) → split-lts.Need-returns-in-Refused-po (calls t) (split_at t) split.Post
+split-returns-6 : (t : ℕ) → split-lts.Need-returns-in-Err-po (calls t) (split_at t) split.Post
 split-returns-6 t c =
     let z = c in
     let s = z.args in
     let n = c in
     let r = c in
     let h = c in
-    splits-pairless (terms_of s.f) s.times s.budget s.found z.requires.1.0 (omega (arith, n.length-n.ensures)) r.roots_of-roots.result r.roots_of-roots.ensures c.in_default.is (omega (arith, c.if-roots-gt0.false)) h.halve-p.result h.halve-p.ensures.0 _ c.in-Refused-po.is c.refused-in-Refused-po.result c.refused-in-Refused-po.ensures
+    splits-pairless (terms_of s.f) s.times s.budget s.found z.requires.1.0 (omega (arith, n.length-n.ensures)) r.roots_of-roots.result r.roots_of-roots.ensures c.in_default.is (omega (arith, c.if-roots-gt0.false)) h.halve-p.result h.halve-p.ensures.0 _ c.in-Err-po.is c.refused-in-Err-po.result c.refused-in-Err-po.ensures
 
 split-enum-told-2 : (t : ℕ) → split-lts.Need-enum_told-in_default-po (calls t) (split_at t) split.Post
 split-enum-told-2 t c = search rules
@@ -178,17 +178,17 @@ split-split-requires-2 t c κs =
     let h = c in
     (omega (arith, z.requires.0, first-shorter (terms_of s.f) s.times s.budget s.found z.requires.1.0 (omega (arith, n.length-n.ensures)) r.roots_of-roots.result r.roots_of-roots.ensures c.in_default.is (omega (arith, c.if-roots-gt0.false)) h.halve-p.result h.halve-p.ensures.0 c.in_default-po.is (not-false _ c.if-not-p.false)), (z.requires.1.0, h.halve-p.ensures.1.factor))
 
-split-enum-told-3 : (t : ℕ) → split-lts.Need-enum_told-in-Refused-ao (calls t) (split_at t) split.Post
+split-enum-told-3 : (t : ℕ) → split-lts.Need-enum_told-in-Err-ao (calls t) (split_at t) split.Post
 split-enum-told-3 t c = search rules
 
-split-returns-8 : (t : ℕ) → split-lts.Need-returns-in-Refused-ao (calls t) (split_at t) split.Post
+split-returns-8 : (t : ℕ) → split-lts.Need-returns-in-Err-ao (calls t) (split_at t) split.Post
 split-returns-8 t c =
     let z = c in
     let s = z.args in
     let n = c in
     let r = c in
     let h = c in
-    splits-half (terms_of s.f) s.times s.budget s.found z.requires.1.0 (omega (arith, n.length-n.ensures)) r.roots_of-roots.result r.roots_of-roots.ensures c.in_default.is (omega (arith, c.if-roots-gt0.false)) h.halve-p.result h.halve-p.ensures.0 c.in_default-po.is (not-false _ c.if-not-p.false) c.split-a.result c.split-a.ensures _ c.in-Refused-ao.is
+    splits-half (terms_of s.f) s.times s.budget s.found z.requires.1.0 (omega (arith, n.length-n.ensures)) r.roots_of-roots.result r.roots_of-roots.ensures c.in_default.is (omega (arith, c.if-roots-gt0.false)) h.halve-p.result h.halve-p.ensures.0 c.in_default-po.is (not-false _ c.if-not-p.false) c.split-a.result c.split-a.ensures _ c.in-Err-ao.is
 
 split-enum-told-4 : (t : ℕ) → split-lts.Need-enum_told-in_default-ao (calls t) (split_at t) split.Post
 split-enum-told-4 t c = search rules

@@ -17,11 +17,11 @@ enum-known-o c = search rules
 no-pair-requires : tie.Need-no_pair-requires
 no-pair-requires c κs = tt
 
-returns : tie.Need-returns-in-Refused
+returns : tie.Need-returns-in-Err
 returns c =
     let d = c in
     let s = d.args in
-    (pair-over c.no_pair.result _ c.no_pair.ensures.1 ∙ paired-refused (terms_of s.f) (terms_of s.g) d.divide-d.result d.divide-d.ensures _ c.in-Refused.is, c.no_pair.ensures.0)
+    (pair-over c.no_pair.result _ c.no_pair.ensures.1 ∙ paired-refused (terms_of s.f) (terms_of s.g) d.divide-d.result d.divide-d.ensures _ c.in-Err.is, c.no_pair.ensures.0)
 
 enum_told : tie.Need-enum_told-1
 enum_told c = search rules

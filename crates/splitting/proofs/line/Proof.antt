@@ -43,10 +43,10 @@ returns-2 : tie.Need-returns
 returns-2 c =
     let z = c in
     let m = z in
-    let n : Ratio = z.in-Done.n in
+    let n : Ratio = z.in-Ok.n in
     c.done.ensures
     ∙ ap {B = Answer} (λ (p : Poly). done_with (record { coeffs = set (set p.coeffs 0 n) 1 (whole_r (pos 1)); len = 2 }) 0) z.zero-p.ensures
-    ∙ sym (ap line_answer_of (sym m.checked_neg.ensures.0 ∙ z.in-Done.is))
+    ∙ sym (ap line_answer_of (sym m.checked_neg.ensures.0 ∙ z.in-Ok.is))
 
 pub line_spec : {M : Type 1} → statement M
 line_spec =

@@ -53,12 +53,12 @@ enum-known-o c = search rules
 stopped-requires : tie.Need-stopped-requires invariant-loop decreases-loop
 stopped-requires c κs = tt
 
-returns : tie.Need-returns-in-Refused invariant-loop decreases-loop
+returns : tie.Need-returns-in-Err invariant-loop decreases-loop
 returns c =
     let m = c in
     let l = m in
     let s = l.args in
-    c.stopped.ensures ∙ peeling-over s.times (roots_in s.roots) (start (pieces_of s.found) (terms_of s.f)) l.loop-i.i l.loop-i.now l.loop-i.rest zero_r (omega arith) l.loop-i.invariant.3 m.peel_one-p.result (told m.before.before) _ c.in-Refused.is
+    c.stopped.ensures ∙ peeling-over s.times (roots_in s.roots) (start (pieces_of s.found) (terms_of s.f)) l.loop-i.i l.loop-i.now l.loop-i.rest zero_r (omega arith) l.loop-i.invariant.3 m.peel_one-p.result (told m.before.before) _ c.in-Err.is
 
 enum_told : tie.Need-enum_told-1 invariant-loop decreases-loop
 enum_told c = search rules

@@ -15,11 +15,11 @@ enum-known-oa c = search rules
 no-pair-requires : tie.Need-no_pair-requires
 no-pair-requires c κs = tt
 
-returns : tie.Need-returns-in-Refused
+returns : tie.Need-returns-in-Err
 returns c =
     let l = c in
     let s = l.args in
-    peel-lineless s.r (terms_of s.f) l.line-a.result l.line-a.ensures c.no_pair.result c.no_pair.ensures.0 _ c.no_pair.ensures.1 c.in-Refused.is
+    peel-lineless s.r (terms_of s.f) l.line-a.result l.line-a.ensures c.no_pair.result c.no_pair.ensures.0 _ c.no_pair.ensures.1 c.in-Err.is
 
 enum_told : tie.Need-enum_told-1
 enum_told c = search rules
@@ -30,15 +30,15 @@ divide-requires c κs = tt
 enum-known-od : tie.Need-enum_known-od
 enum-known-od c = search rules
 
-no-pair-requires-2 : tie.Need-no_pair-requires-in-Refused-od
+no-pair-requires-2 : tie.Need-no_pair-requires-in-Err-od
 no-pair-requires-2 c κs = tt
 
-returns-2 : tie.Need-returns-in-Refused-od
+returns-2 : tie.Need-returns-in-Err-od
 returns-2 c =
     let d = c in
     let l = d in
     let s = l.args in
-    peel-refused s.r (terms_of s.f) l.line-a.result l.line-a.ensures d.in_default.is d.divide-d.result d.divide-d.ensures c.no_pair-in-Refused-od.result c.no_pair-in-Refused-od.ensures.0 _ c.no_pair-in-Refused-od.ensures.1 c.in-Refused-od.is
+    peel-refused s.r (terms_of s.f) l.line-a.result l.line-a.ensures d.in_default.is d.divide-d.result d.divide-d.ensures c.no_pair-in-Err-od.result c.no_pair-in-Err-od.ensures.0 _ c.no_pair-in-Err-od.ensures.1 c.in-Err-od.is
 
 enum-told-2 : tie.Need-enum_told-in_default-od
 enum-told-2 c = search rules

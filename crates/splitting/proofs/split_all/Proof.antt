@@ -57,13 +57,13 @@ split-requires c κs =
 enum_told : tie.Need-enum_told-1 invariant-loop decreases-loop
 enum_told c = search rules
 
-returns : tie.Need-returns-in-Refused invariant-loop decreases-loop
+returns : tie.Need-returns-in-Err invariant-loop decreases-loop
 returns c =
     let p = c in
     let m = p in
     let l = m in
     let s = l.args in
-    splitting-over (pieces_of s.d) s.budget l.loop-i.i l.loop-i.found no_piece (omega arith) l.loop-i.invariant.3 _ (read-terms s.d.len s.d.pieces l.loop-i.i _ no_piece (omega arith)) (terms_of m.normalise-q.result) (ap terms_of m.normalise-q.ensures ∙ terms-of-poly _) p.split-next.result p.split-next.ensures _ c.in-Refused.is
+    splitting-over (pieces_of s.d) s.budget l.loop-i.i l.loop-i.found no_piece (omega arith) l.loop-i.invariant.3 _ (read-terms s.d.len s.d.pieces l.loop-i.i _ no_piece (omega arith)) (terms_of m.normalise-q.result) (ap terms_of m.normalise-q.ensures ∙ terms-of-poly _) p.split-next.result p.split-next.ensures _ c.in-Err.is
 
 enum-told-2 : tie.Need-enum_told-in_default invariant-loop decreases-loop
 enum-told-2 c = search rules

@@ -78,7 +78,7 @@ checked-add-requires : tie.Need-checked_add-requires invariant-loop decreases-lo
 checked-add-requires c κs = tt
 
 added : (c : tie.After-checked_add invariant-loop decreases-loop) →
-    add_of (get_or c.loop-j.out (c.args.k + c.loop-j.j) zero_r) c.in-Done.t ≡ c.checked_add.result
+    add_of (get_or c.loop-j.out (c.args.k + c.loop-j.j) zero_r) c.in-Ok.t ≡ c.checked_add.result
 added c =
     let l = c in
     let s = l.args in
@@ -103,7 +103,7 @@ returns-2 c =
     let l = m in
     let s = l.args in
     c.row_refused-in_default-checked_add.ensures
-    ∙ ap row_of (sum_over plus s.acc s.k s.x (terms_of s.b) s.steps l.loop-j.j l.loop-j.count l.loop-j.out (omega arith) l.loop-j.invariant.6 _ _ (product m.before.before.before.before.before ∙ a.in-Done.is) (added a.before.before ∙ c.in_default-checked_add.is))
+    ∙ ap row_of (sum_over plus s.acc s.k s.x (terms_of s.b) s.steps l.loop-j.j l.loop-j.count l.loop-j.out (omega arith) l.loop-j.invariant.6 _ _ (product m.before.before.before.before.before ∙ a.in-Ok.is) (added a.before.before ∙ c.in_default-checked_add.is))
 
 add-out : tie.Need-overflow_add-out invariant-loop decreases-loop
 add-out c = omega arith
@@ -135,7 +135,7 @@ loop-again c =
       omega arith,
       omega arith,
       length-set l.loop-j.out (s.k + l.loop-j.j) _ ∙ l.loop-j.invariant.5,
-      added_more plus s.acc s.k s.x (terms_of s.b) s.steps l.loop-j.j l.loop-j.count l.loop-j.out (omega arith) l.loop-j.invariant.6 _ _ (product m.before.before.before.before ∙ a.in-Done.is) (added a.before ∙ c.in-Done-checked_add.is),
+      added_more plus s.acc s.k s.x (terms_of s.b) s.steps l.loop-j.j l.loop-j.count l.loop-j.out (omega arith) l.loop-j.invariant.6 _ _ (product m.before.before.before.before ∙ a.in-Ok.is) (added a.before ∙ c.in-Ok-checked_add.is),
     )
 
 returns-3 : tie.Need-returns invariant-loop decreases-loop

@@ -1,6 +1,6 @@
 -- `terms::refused` meets its contract.
+use Rattle.std.specs.Prelude.{Err}
 use mathlib.Core.Path.{ap}
-use Rattle.ratio.specs.declared.Outcome.TheVariants.{Refused}
 use Rattle.terms.specs.declared.Poly.{Poly}
 use Rattle.terms.specs.declared.Answer.{Answer}
 use borrow.Author.Rules.{rules}
@@ -11,7 +11,7 @@ zero-requires : tie.Need-zero-requires
 zero-requires c κs = search rules
 
 returns : tie.Need-returns
-returns c = ap {B = Answer} (λ (p : Poly). record { outcome = Refused c.args.why; poly = p; steps = c.args.steps }) c.zero.ensures
+returns c = ap {B = Answer} (λ (p : Poly). record { outcome = Err c.args.why; poly = p; steps = c.args.steps }) c.zero.ensures
 
 pub refused_spec : {M : Type 1} → statement M
 refused_spec = tie.close (tie.spec zero-requires returns)

@@ -11,17 +11,17 @@ factor-of-requires : tie.Need-factor_of-m-requires
 factor-of-requires c κs = tt
 
 enum-known-om : tie.Need-enum_known-om
-enum-known-om c = c.in-Refused-1.keys1
+enum-known-om c = c.in-Err-1.keys1
 
 stop-requires : tie.Need-stop-requires
 stop-requires c κs = tt
 
-returns : tie.Need-returns-in-Refused
+returns : tie.Need-returns-in-Err
 returns c =
     let o = c in
     let m = o in
     let s = m.args in
-    stops (λ i found. cut_by i (terms_of s.b) (terms_of s.d) found (terms_of s.a)) c.stop.result _ c.stop.ensures (λ i found. cut-refused i (terms_of s.b) (terms_of s.d) found (terms_of s.a) m.factor_of-m.result m.factor_of-m.ensures _ o.in-Refused.is)
+    stops (λ i found. cut_by i (terms_of s.b) (terms_of s.d) found (terms_of s.a)) c.stop.result _ c.stop.ensures (λ i found. cut-refused i (terms_of s.b) (terms_of s.d) found (terms_of s.a) m.factor_of-m.result m.factor_of-m.ensures _ o.in-Err.is)
 
 enum_told : tie.Need-enum_told-1
 enum_told c = c.in_default-1.keys2
@@ -30,19 +30,19 @@ divide-requires : tie.Need-divide-q-requires
 divide-requires c κs = tt
 
 enum-known-oq : tie.Need-enum_known-oq
-enum-known-oq c = c.in-Refused-oq-1.keys1
+enum-known-oq c = c.in-Err-oq-1.keys1
 
-stop-requires-2 : tie.Need-stop-requires-in-Refused-oq
+stop-requires-2 : tie.Need-stop-requires-in-Err-oq
 stop-requires-2 c κs = tt
 
-returns-2 : tie.Need-returns-in-Refused-oq
+returns-2 : tie.Need-returns-in-Err-oq
 returns-2 c =
     let o = c in
     let q = o in
     let t = q in
     let m = t in
     let s = m.args in
-    stops (λ i found. cut_by i (terms_of s.b) (terms_of s.d) found (terms_of s.a)) c.stop-in-Refused-oq.result _ c.stop-in-Refused-oq.ensures (λ i found. left-refused i (terms_of s.b) (terms_of s.d) found (terms_of s.a) m.factor_of-m.result m.factor_of-m.ensures t.in_default.is q.divide-q.result q.divide-q.ensures _ o.in-Refused-oq.is)
+    stops (λ i found. cut_by i (terms_of s.b) (terms_of s.d) found (terms_of s.a)) c.stop-in-Err-oq.result _ c.stop-in-Err-oq.ensures (λ i found. left-refused i (terms_of s.b) (terms_of s.d) found (terms_of s.a) m.factor_of-m.result m.factor_of-m.ensures t.in_default.is q.divide-q.result q.divide-q.ensures _ o.in-Err-oq.is)
 
 enum-told-2 : tie.Need-enum_told-in_default-oq
 enum-told-2 c = c.in_default-oq-1.keys2
@@ -51,12 +51,12 @@ divide-requires-2 : tie.Need-divide-r-requires
 divide-requires-2 c κs = tt
 
 enum-known-or : tie.Need-enum_known-or
-enum-known-or c = c.in-Refused-or-1.keys1
+enum-known-or c = c.in-Err-or-1.keys1
 
-stop-requires-3 : tie.Need-stop-requires-in-Refused-or
+stop-requires-3 : tie.Need-stop-requires-in-Err-or
 stop-requires-3 c κs = tt
 
-returns-3 : tie.Need-returns-in-Refused-or
+returns-3 : tie.Need-returns-in-Err-or
 returns-3 c =
     let o = c in
     let r = o in
@@ -65,7 +65,7 @@ returns-3 c =
     let t = q in
     let m = t in
     let s = m.args in
-    stops (λ i found. cut_by i (terms_of s.b) (terms_of s.d) found (terms_of s.a)) c.stop-in-Refused-or.result _ c.stop-in-Refused-or.ensures (λ i found. right-refused i (terms_of s.b) (terms_of s.d) found (terms_of s.a) m.factor_of-m.result m.factor_of-m.ensures t.in_default.is q.divide-q.result q.divide-q.ensures u.in_default-oq.is r.divide-r.result r.divide-r.ensures _ o.in-Refused-or.is)
+    stops (λ i found. cut_by i (terms_of s.b) (terms_of s.d) found (terms_of s.a)) c.stop-in-Err-or.result _ c.stop-in-Err-or.ensures (λ i found. right-refused i (terms_of s.b) (terms_of s.d) found (terms_of s.a) m.factor_of-m.result m.factor_of-m.ensures t.in_default.is q.divide-q.result q.divide-q.ensures u.in_default-oq.is r.divide-r.result r.divide-r.ensures _ o.in-Err-or.is)
 
 enum-told-3 : tie.Need-enum_told-in_default-or
 enum-told-3 c = c.in_default-or-1.keys2

@@ -25,18 +25,18 @@ monic-requires : tie.Need-monic-m-requires
 monic-requires c κs = tt
 
 enum-known-om : tie.Need-enum_known-om
-enum-known-om c = c.in-Refused-1.keys1
+enum-known-om c = c.in-Err-1.keys1
 
 refused-requires : tie.Need-refused-requires
 refused-requires c κs = tt
 
-returns-2 : tie.Need-returns-in-Refused
+returns-2 : tie.Need-returns-in-Err
 returns-2 c =
     let o = c in
     let m = o in
     let l = m in
     let s = l.args in
-    c.refused.ensures ∙ ap decomposition_of (monic-refused (terms_of s.f) (omega (arith, l.length.ensures)) m.monic-m.result m.monic-m.ensures _ o.in-Refused.is)
+    c.refused.ensures ∙ ap decomposition_of (monic-refused (terms_of s.f) (omega (arith, l.length.ensures)) m.monic-m.result m.monic-m.ensures _ o.in-Err.is)
 
 enum_told : tie.Need-enum_told-1
 enum_told c = c.in_default-1.keys2

@@ -12,17 +12,17 @@ monic-requires : tie.Need-monic-m-requires
 monic-requires c κs = tt
 
 enum-known-o : tie.Need-enum_known-o
-enum-known-o c = c.in-Refused-1.keys1
+enum-known-o c = c.in-Err-1.keys1
 
 stop-requires : tie.Need-stop-requires
 stop-requires c κs = tt
 
-returns : tie.Need-returns-in-Refused
+returns : tie.Need-returns-in-Err
 returns c =
     let o = c in
     let m = o in
     let b = terms_of m.args.b in
-    stops (λ i. ended i b) c.stop.result _ c.stop.ensures (λ i found. ended-refused i b found m.monic-m.result m.monic-m.ensures _ o.in-Refused.is)
+    stops (λ i. ended i b) c.stop.result _ c.stop.ensures (λ i found. ended-refused i b found m.monic-m.result m.monic-m.ensures _ o.in-Err.is)
 
 enum_told : tie.Need-enum_told-1
 enum_told c = c.in_default-1.keys2

@@ -39,17 +39,17 @@ turn-requires : tie.Need-turn-t-requires invariant-loop decreases-loop
 turn-requires c κs = tt
 
 enum-known-o : tie.Need-enum_known-o invariant-loop decreases-loop
-enum-known-o c = c.in-Refused-1.keys1
+enum-known-o c = c.in-Err-1.keys1
 
 refused-requires : tie.Need-refused-requires invariant-loop decreases-loop
 refused-requires c κs = tt
 
-returns : tie.Need-returns-in-Refused invariant-loop decreases-loop
+returns : tie.Need-returns-in-Err invariant-loop decreases-loop
 returns c =
     let l = c in
     let s = l.args in
     let n = l.length-n.result in
-    c.refused.ensures ∙ ap (λ g. decomposition_of (found_or (terms_of s.f) g)) (going-refused n (terms_of s.b) (terms_of s.c) l.loop-i.i (terms_of l.loop-i.u) (terms_of l.loop-i.v) l.loop-i.found l.loop-i.invariant.2 (omega arith) c.turn-t.result c.turn-t.ensures _ c.in-Refused.is) ∙ ap (λ k. decomposition_of (found_or (terms_of s.f) (rounds k 1 (terms_of s.b) (terms_of s.c) []))) l.loop-i.invariant.0
+    c.refused.ensures ∙ ap (λ g. decomposition_of (found_or (terms_of s.f) g)) (going-refused n (terms_of s.b) (terms_of s.c) l.loop-i.i (terms_of l.loop-i.u) (terms_of l.loop-i.v) l.loop-i.found l.loop-i.invariant.2 (omega arith) c.turn-t.result c.turn-t.ensures _ c.in-Err.is) ∙ ap (λ k. decomposition_of (found_or (terms_of s.f) (rounds k 1 (terms_of s.b) (terms_of s.c) []))) l.loop-i.invariant.0
 
 enum_told : tie.Need-enum_told-1 invariant-loop decreases-loop
 enum_told c = c.in_default-1.keys2

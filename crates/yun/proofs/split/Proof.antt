@@ -12,17 +12,17 @@ differentiate-requires : tie.Need-differentiate-d-requires
 differentiate-requires c κs = tt
 
 enum-known-od : tie.Need-enum_known-od
-enum-known-od c = c.in-Refused-1.keys1
+enum-known-od c = c.in-Err-1.keys1
 
 refused-requires : tie.Need-refused-requires
 refused-requires c κs = tt
 
-returns : tie.Need-returns-in-Refused
+returns : tie.Need-returns-in-Err
 returns c =
     let o = c in
     let d = o in
     let s = d.args in
-    c.refused.ensures ∙ ap (λ g. decomposition_of (found_or (terms_of s.f) g)) (slope-refused (terms_of s.f) d.differentiate-d.result d.differentiate-d.ensures _ o.in-Refused.is)
+    c.refused.ensures ∙ ap (λ g. decomposition_of (found_or (terms_of s.f) g)) (slope-refused (terms_of s.f) d.differentiate-d.result d.differentiate-d.ensures _ o.in-Err.is)
 
 enum_told : tie.Need-enum_told-1
 enum_told c = c.in_default-1.keys2
@@ -45,12 +45,12 @@ greatest-requires : tie.Need-greatest-g-requires
 greatest-requires c κs = tt
 
 enum-known-og : tie.Need-enum_known-og
-enum-known-og c = c.in-Refused-og-1.keys1
+enum-known-og c = c.in-Err-og-1.keys1
 
-refused-requires-2 : tie.Need-refused-requires-in-Refused-og
+refused-requires-2 : tie.Need-refused-requires-in-Err-og
 refused-requires-2 c κs = tt
 
-returns-3 : tie.Need-returns-in-Refused-og
+returns-3 : tie.Need-returns-in-Err-og
 returns-3 c =
     let o = c in
     let g = o in
@@ -58,7 +58,7 @@ returns-3 c =
     let t = l in
     let d = t in
     let s = d.args in
-    c.refused-in-Refused-og.ensures ∙ ap (λ g. decomposition_of (found_or (terms_of s.f) g)) (shared-refused (terms_of s.f) d.differentiate-d.result d.differentiate-d.ensures t.in_default.is (omega (arith, l.length.ensures)) g.greatest-g.result g.greatest-g.ensures _ o.in-Refused-og.is)
+    c.refused-in-Err-og.ensures ∙ ap (λ g. decomposition_of (found_or (terms_of s.f) g)) (shared-refused (terms_of s.f) d.differentiate-d.result d.differentiate-d.ensures t.in_default.is (omega (arith, l.length.ensures)) g.greatest-g.result g.greatest-g.ensures _ o.in-Err-og.is)
 
 enum-told-2 : tie.Need-enum_told-in_default-og
 enum-told-2 c = c.in_default-og-1.keys2

@@ -12,17 +12,17 @@ divide-requires : tie.Need-divide-q-requires
 divide-requires c κs = tt
 
 enum-known-oq : tie.Need-enum_known-oq
-enum-known-oq c = c.in-Refused-1.keys1
+enum-known-oq c = c.in-Err-1.keys1
 
 refused-requires : tie.Need-refused-requires
 refused-requires c κs = tt
 
-returns : tie.Need-returns-in-Refused
+returns : tie.Need-returns-in-Err
 returns c =
     let o = c in
     let q = o in
     let s = q.args in
-    c.refused.ensures ∙ ap (λ g. decomposition_of (found_or (terms_of s.f) g)) (first-refused (terms_of s.f) (terms_of s.df) (terms_of s.a) q.divide-q.result q.divide-q.ensures _ o.in-Refused.is)
+    c.refused.ensures ∙ ap (λ g. decomposition_of (found_or (terms_of s.f) g)) (first-refused (terms_of s.f) (terms_of s.df) (terms_of s.a) q.divide-q.result q.divide-q.ensures _ o.in-Err.is)
 
 enum_told : tie.Need-enum_told-1
 enum_told c = c.in_default-1.keys2
@@ -45,12 +45,12 @@ divide-requires-2 : tie.Need-divide-r-requires
 divide-requires-2 c κs = tt
 
 enum-known-or : tie.Need-enum_known-or
-enum-known-or c = c.in-Refused-or-1.keys1
+enum-known-or c = c.in-Err-or-1.keys1
 
-refused-requires-2 : tie.Need-refused-requires-in-Refused-or
+refused-requires-2 : tie.Need-refused-requires-in-Err-or
 refused-requires-2 c κs = tt
 
-returns-3 : tie.Need-returns-in-Refused-or
+returns-3 : tie.Need-returns-in-Err-or
 returns-3 c =
     let o = c in
     let r = o in
@@ -58,7 +58,7 @@ returns-3 c =
     let t = l in
     let q = t in
     let s = q.args in
-    c.refused-in-Refused-or.ensures ∙ ap (λ g. decomposition_of (found_or (terms_of s.f) g)) (second-refused (terms_of s.f) (terms_of s.df) (terms_of s.a) q.divide-q.result q.divide-q.ensures t.in_default.is (omega (arith, l.length.ensures)) r.divide-r.result r.divide-r.ensures _ o.in-Refused-or.is)
+    c.refused-in-Err-or.ensures ∙ ap (λ g. decomposition_of (found_or (terms_of s.f) g)) (second-refused (terms_of s.f) (terms_of s.df) (terms_of s.a) q.divide-q.result q.divide-q.ensures t.in_default.is (omega (arith, l.length.ensures)) r.divide-r.result r.divide-r.ensures _ o.in-Err-or.is)
 
 enum-told-2 : tie.Need-enum_told-in_default-or
 enum-told-2 c = c.in_default-or-1.keys2

@@ -1,7 +1,8 @@
 -- `yun::stay_whole` meets its contract.
+use Rattle.ratio.specs.Refusal.{no_refusal}
+use Rattle.std.specs.Prelude.{Ok}
 use mathlib.Core.Path.{ap, ◌∙◌}
 use mathlib.Core.Bool.{true}
-use Rattle.ratio.specs.declared.Outcome.TheVariants as O
 use Rattle.terms.specs.declared.Poly.{Poly}
 use Rattle.yun.specs.Answer.{over_with}
 use Rattle.yun.proofs.stay_whole.Statement.{statement}
@@ -14,7 +15,7 @@ over-requires : tie.Need-over-requires
 over-requires c κs = tt
 
 returns : tie.Need-returns
-returns c = c.over.ensures ∙ ap (λ (p : Poly). over_with O.Done true p) c.zero.ensures
+returns c = c.over.ensures ∙ ap (λ (p : Poly). over_with no_refusal true p) c.zero.ensures
 
 pub stay_whole_spec : {M : Type 1} → statement M
 stay_whole_spec = tie.close (tie.spec zero-requires over-requires returns)

@@ -1,7 +1,7 @@
 -- `yun::stop` meets its contract.
+use Rattle.std.specs.Prelude.{Err}
 use mathlib.Core.Path.{ap, ◌∙◌}
 use mathlib.Core.Bool.{false}
-use Rattle.ratio.specs.declared.Outcome.TheVariants as O
 use Rattle.terms.specs.declared.Poly.{Poly}
 use Rattle.yun.specs.Answer.{over_with}
 use Rattle.yun.proofs.stop.Statement.{statement}
@@ -14,7 +14,7 @@ over-requires : tie.Need-over-requires
 over-requires c κs = tt
 
 returns : tie.Need-returns
-returns c = c.over.ensures ∙ ap (λ (p : Poly). over_with (O.Refused c.args.why) false p) c.zero.ensures
+returns c = c.over.ensures ∙ ap (λ (p : Poly). over_with (Err c.args.why) false p) c.zero.ensures
 
 pub stop_spec : {M : Type 1} → statement M
 stop_spec = tie.close (tie.spec zero-requires over-requires returns)

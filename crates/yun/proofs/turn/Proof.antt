@@ -1,8 +1,9 @@
 -- `yun::turn` meets its contract.
+use Rattle.ratio.specs.Refusal.{no_refusal}
+use Rattle.std.specs.Prelude.{Ok}
 use mathlib.Core.Path.{refl, ap, ◌∙◌}
 use mathlib.Core.Bool.{false}
 use native.Mathlib.Omega.{arith}
-use Rattle.ratio.specs.declared.Outcome.TheVariants as O
 use mathlib.Core.List.{[]}
 use Rattle.terms.specs.declared.Poly.{Poly}
 use Rattle.terms.specs.Poly.{terms_of, poly_of}
@@ -25,24 +26,24 @@ returns : tie.Need-returns-then-length-lt2
 returns c =
     let l = c in
     let s = l.args in
-    lasts (λ i. turn_of i (terms_of s.b) (terms_of s.c)) c.over.result (poly_of []) (c.over.ensures ∙ ap (λ (p : Poly). over_with O.Done false p) c.zero.ensures) refl (λ i found. turn-constant i (terms_of s.b) (terms_of s.c) found (omega (arith, l.length.ensures)))
+    lasts (λ i. turn_of i (terms_of s.b) (terms_of s.c)) c.over.result (poly_of []) (c.over.ensures ∙ ap (λ (p : Poly). over_with no_refusal false p) c.zero.ensures) refl (λ i found. turn-constant i (terms_of s.b) (terms_of s.c) found (omega (arith, l.length.ensures)))
 
 differentiate-requires : tie.Need-differentiate-db-requires
 differentiate-requires c κs = tt
 
 enum-known-ob : tie.Need-enum_known-ob
-enum-known-ob c = c.in-Refused-1.keys1
+enum-known-ob c = c.in-Err-1.keys1
 
 stop-requires : tie.Need-stop-requires
 stop-requires c κs = tt
 
-returns-2 : tie.Need-returns-in-Refused
+returns-2 : tie.Need-returns-in-Err
 returns-2 c =
     let o = c in
     let d = o in
     let l = d in
     let s = l.args in
-    stops (λ i. turn_of i (terms_of s.b) (terms_of s.c)) c.stop.result _ c.stop.ensures (λ i found. slope-refused i (terms_of s.b) (terms_of s.c) found (omega (arith, l.length.ensures)) d.differentiate-db.result d.differentiate-db.ensures _ o.in-Refused.is)
+    stops (λ i. turn_of i (terms_of s.b) (terms_of s.c)) c.stop.result _ c.stop.ensures (λ i found. slope-refused i (terms_of s.b) (terms_of s.c) found (omega (arith, l.length.ensures)) d.differentiate-db.result d.differentiate-db.ensures _ o.in-Err.is)
 
 enum_told : tie.Need-enum_told-1
 enum_told c = c.in_default-1.keys2
@@ -51,12 +52,12 @@ zip-requires : tie.Need-zip-diff-requires
 zip-requires c κs = tt
 
 enum-known-od : tie.Need-enum_known-od
-enum-known-od c = c.in-Refused-od-1.keys1
+enum-known-od c = c.in-Err-od-1.keys1
 
-stop-requires-2 : tie.Need-stop-requires-in-Refused-od
+stop-requires-2 : tie.Need-stop-requires-in-Err-od
 stop-requires-2 c κs = tt
 
-returns-3 : tie.Need-returns-in-Refused-od
+returns-3 : tie.Need-returns-in-Err-od
 returns-3 c =
     let o = c in
     let z = o in
@@ -64,7 +65,7 @@ returns-3 c =
     let d = t in
     let l = d in
     let s = l.args in
-    stops (λ i. turn_of i (terms_of s.b) (terms_of s.c)) c.stop-in-Refused-od.result _ c.stop-in-Refused-od.ensures (λ i found. difference-refused i (terms_of s.b) (terms_of s.c) found (omega (arith, l.length.ensures)) d.differentiate-db.result d.differentiate-db.ensures t.in_default.is z.zip-diff.result z.zip-diff.ensures _ o.in-Refused-od.is)
+    stops (λ i. turn_of i (terms_of s.b) (terms_of s.c)) c.stop-in-Err-od.result _ c.stop-in-Err-od.ensures (λ i found. difference-refused i (terms_of s.b) (terms_of s.c) found (omega (arith, l.length.ensures)) d.differentiate-db.result d.differentiate-db.ensures t.in_default.is z.zip-diff.result z.zip-diff.ensures _ o.in-Err-od.is)
 
 enum-told-2 : tie.Need-enum_told-in_default-od
 enum-told-2 c = c.in_default-od-1.keys2
@@ -90,12 +91,12 @@ greatest-requires : tie.Need-greatest-g-requires
 greatest-requires c κs = tt
 
 enum-known-og : tie.Need-enum_known-og
-enum-known-og c = c.in-Refused-og-1.keys1
+enum-known-og c = c.in-Err-og-1.keys1
 
-stop-requires-3 : tie.Need-stop-requires-in-Refused-og
+stop-requires-3 : tie.Need-stop-requires-in-Err-og
 stop-requires-3 c κs = tt
 
-returns-5 : tie.Need-returns-in-Refused-og
+returns-5 : tie.Need-returns-in-Err-og
 returns-5 c =
     let o = c in
     let g = o in
@@ -106,7 +107,7 @@ returns-5 c =
     let d = t in
     let l = d in
     let s = l.args in
-    stops (λ i. turn_of i (terms_of s.b) (terms_of s.c)) c.stop-in-Refused-og.result _ c.stop-in-Refused-og.ensures (λ i found. gcd-refused i (terms_of s.b) (terms_of s.c) found (omega (arith, l.length.ensures)) d.differentiate-db.result d.differentiate-db.ensures t.in_default.is z.zip-diff.result z.zip-diff.ensures u.in_default-od.is (omega (arith, k.length-2.ensures)) g.greatest-g.result g.greatest-g.ensures _ o.in-Refused-og.is)
+    stops (λ i. turn_of i (terms_of s.b) (terms_of s.c)) c.stop-in-Err-og.result _ c.stop-in-Err-og.ensures (λ i found. gcd-refused i (terms_of s.b) (terms_of s.c) found (omega (arith, l.length.ensures)) d.differentiate-db.result d.differentiate-db.ensures t.in_default.is z.zip-diff.result z.zip-diff.ensures u.in_default-od.is (omega (arith, k.length-2.ensures)) g.greatest-g.result g.greatest-g.ensures _ o.in-Err-og.is)
 
 enum-told-3 : tie.Need-enum_told-in_default-og
 enum-told-3 c = c.in_default-og-1.keys2

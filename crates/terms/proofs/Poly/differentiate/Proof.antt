@@ -1,4 +1,7 @@
 -- `terms::Poly::differentiate` meets its contract. The loop's invariant: the first i products are made.
+use Rattle.ratio.specs.declared.Reason.{Reason}
+use Rattle.ratio.specs.declared.Ratio.{Ratio}
+use Rattle.std.specs.Prelude.{Result}
 use mathlib.Core.Path.{◌≡◌, refl, sym, ap, ap₂, ◌∙◌}
 use Prim.Native.Nat.{ℕ, ◌≤◌, ◌-◌, ◌+◌}
 use native.Mathlib.Omega.{arith}
@@ -7,7 +10,6 @@ use lib.ListN.{length, get_or, length-set}
 use borrow.Author.Rules.{rules}
 use Rattle.ratio.specs.Refusal.{zero_r}
 use Rattle.ratio.specs.Step.{mul_of}
-use Rattle.ratio.specs.declared.Step.{Step}
 use Rattle.terms.specs.declared.Poly.{Poly}
 use Rattle.terms.specs.Poly.{terms_of}
 use Rattle.terms.specs.Pairs.{pairs}
@@ -21,7 +23,7 @@ use Rattle.terms.proofs.Poly.differentiate.Statement.{statement}
 use Rattle.terms.proofs.Poly.differentiate.Tie as tie
 
 -- the step of turn i
-abbrev turn : Poly → ℕ → Step
+abbrev turn : Poly → ℕ → Result Ratio Reason
 turn self i = mul_of (get_or (terms_of self) (i + 1) zero_r) (whole_r (pos (i + 1)))
 
 abbrev invariant-loop : tie.invariant-loop-i
@@ -119,8 +121,8 @@ loop-again c =
       omega arith,
       length-set l.loop-i.nums l.loop-i.i _ ∙ inv.3,
       length-set l.loop-i.dens l.loop-i.i _ ∙ inv.4,
-      pairs-write l.loop-i.nums l.loop-i.dens inv.3 inv.4 (Counted (turn s.self) (length (terms_of s.self) - 1) (l.loop-i.i + 1)) l.loop-i.i k.in-Done.y (record { sfits = c.struct_told-1.given.0.1 }) (record { sfits = c.struct_told-in-loop-i-1.given.1.0.1 })
-          (counted-more (turn s.self) (length (terms_of s.self) - 1) l.loop-i.i (pairs l.loop-i.nums l.loop-i.dens) _ (omega arith) (omega (arith, pairs-32 l.loop-i.nums l.loop-i.dens inv.3 inv.4)) (step m.before.before.before ∙ k.in-Done.is) inv.5),
+      pairs-write l.loop-i.nums l.loop-i.dens inv.3 inv.4 (Counted (turn s.self) (length (terms_of s.self) - 1) (l.loop-i.i + 1)) l.loop-i.i k.in-Ok.y (record { sfits = c.struct_told-1.given.0.1 }) (record { sfits = c.struct_told-in-loop-i-1.given.1.0.1 })
+          (counted-more (turn s.self) (length (terms_of s.self) - 1) l.loop-i.i (pairs l.loop-i.nums l.loop-i.dens) _ (omega arith) (omega (arith, pairs-32 l.loop-i.nums l.loop-i.dens inv.3 inv.4)) (step m.before.before.before ∙ k.in-Ok.is) inv.5),
     )
 
 slice-aggregate-joined : tie.Need-slice_bounds-joined-end invariant-loop decreases-loop

@@ -117,10 +117,10 @@ checked-add-requires : tie.Need-checked_add-requires invariant-loop decreases-lo
 checked-add-requires c κs = tt
 
 -- the sum of a turn
-added : (c : tie.After-checked_add invariant-loop decreases-loop) → add_of (get_or (pairs c.loop-i.nums c.loop-i.dens) (c.loop-i.i + c.loop-i.j) zero_r) c.in-Done.t ≡ c.checked_add.result
+added : (c : tie.After-checked_add invariant-loop decreases-loop) → add_of (get_or (pairs c.loop-i.nums c.loop-i.dens) (c.loop-i.i + c.loop-i.j) zero_r) c.in-Ok.t ≡ c.checked_add.result
 added c =
     let l = c in
-    sym (c.checked_add.ensures.0 ∙ ap (λ (r : Ratio). add_of r c.in-Done.t) (pairs-read l.loop-i.nums l.loop-i.dens (l.loop-i.i + l.loop-i.j) (l.loop-i.invariant.9 ∙ sym l.loop-i.invariant.8) (omega arith) (record { sfits = c.u-1.given }) (record { sfits = c.v-1.given })))
+    sym (c.checked_add.ensures.0 ∙ ap (λ (r : Ratio). add_of r c.in-Ok.t) (pairs-read l.loop-i.nums l.loop-i.dens (l.loop-i.i + l.loop-i.j) (l.loop-i.invariant.9 ∙ sym l.loop-i.invariant.8) (omega arith) (record { sfits = c.u-1.given }) (record { sfits = c.v-1.given })))
 
 enum-known-s : tie.Need-enum_known-s invariant-loop decreases-loop
 enum-known-s c = search rules
@@ -143,7 +143,7 @@ returns-2 c =
     let inv = l.loop-i.invariant in
     c.refused-in_default-checked_add.ensures
     ∙ product-refused (terms_of s.self) (terms_of s.other) (omega (arith, inv)) (omega (arith, inv)) (omega (arith, inv)) (l.loop-i.steps + 2)
-    (plus-over (terms_of s.self) (terms_of s.other) l.loop-i.i l.loop-i.j l.loop-i.steps (pairs l.loop-i.nums l.loop-i.dens) (omega arith) inv.10 (omega arith) _ _ (product m.before.before.before.before.before.before ∙ a.in-Done.is) (added a.before.before ∙ c.in_default-checked_add.is))
+    (plus-over (terms_of s.self) (terms_of s.other) l.loop-i.i l.loop-i.j l.loop-i.steps (pairs l.loop-i.nums l.loop-i.dens) (omega arith) inv.10 (omega arith) _ _ (product m.before.before.before.before.before.before ∙ a.in-Ok.is) (added a.before.before ∙ c.in_default-checked_add.is))
 
 mul-nums : tie.Need-offset_bounds-nums-at-in-loop-i invariant-loop decreases-loop
 mul-nums c = omega arith
@@ -185,8 +185,8 @@ loop-again-2 c =
       omega arith,
       length-set l.loop-i.nums at _ ∙ inv.8,
       length-set l.loop-i.dens at _ ∙ inv.9,
-      pairs-write l.loop-i.nums l.loop-i.dens inv.8 inv.9 (Summed (terms_of s.self) (terms_of s.other) l.loop-i.i (l.loop-i.j + 1) (l.loop-i.steps + 2)) at k.in-Done-checked_add.s (record { sfits = c.struct_told-1.given.0.1 }) (record { sfits = c.struct_told-in-loop-i-1.given.1.0.1 })
-          (summed-place (terms_of s.self) (terms_of s.other) l.loop-i.i l.loop-i.j l.loop-i.steps (pairs l.loop-i.nums l.loop-i.dens) (omega arith) inv.10 (omega arith) _ _ (product m.before.before.before.before.before.before.before ∙ a.in-Done.is) (added a.before.before.before ∙ k.in-Done-checked_add.is)),
+      pairs-write l.loop-i.nums l.loop-i.dens inv.8 inv.9 (Summed (terms_of s.self) (terms_of s.other) l.loop-i.i (l.loop-i.j + 1) (l.loop-i.steps + 2)) at k.in-Ok-checked_add.s (record { sfits = c.struct_told-1.given.0.1 }) (record { sfits = c.struct_told-in-loop-i-1.given.1.0.1 })
+          (summed-place (terms_of s.self) (terms_of s.other) l.loop-i.i l.loop-i.j l.loop-i.steps (pairs l.loop-i.nums l.loop-i.dens) (omega arith) inv.10 (omega arith) _ _ (product m.before.before.before.before.before.before.before ∙ a.in-Ok.is) (added a.before.before.before ∙ k.in-Ok-checked_add.is)),
     )
 
 slice-aggregate-joined : tie.Need-slice_bounds-joined-end invariant-loop decreases-loop

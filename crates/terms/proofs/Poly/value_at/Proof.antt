@@ -79,7 +79,7 @@ returns-2 c =
     let m = a in
     let l = m in
     let s = l.args in
-    second-over (terms_of s.self) s.x l.loop-i.i (fraction l.loop-i.pn-bits l.loop-i.pd-bits) (fraction l.loop-i.sn-bits l.loop-i.sd-bits) (omega arith) l.loop-i.invariant.2 _ _ (read m.before.before.before ∙ a.in-Done.is)
+    second-over (terms_of s.self) s.x l.loop-i.i (fraction l.loop-i.pn-bits l.loop-i.pd-bits) (fraction l.loop-i.sn-bits l.loop-i.sd-bits) (omega arith) l.loop-i.invariant.2 _ _ (read m.before.before.before ∙ a.in-Ok.is)
     (sym a.checked_add.ensures.0 ∙ c.in_default-checked_add.is)
 
 checked-mul-requires-2 : tie.Need-checked_mul-requires-in-loop-i invariant-loop decreases-loop
@@ -98,8 +98,8 @@ returns-3 c =
     let m = a in
     let l = m in
     let s = l.args in
-    third-over (terms_of s.self) s.x l.loop-i.i (fraction l.loop-i.pn-bits l.loop-i.pd-bits) (fraction l.loop-i.sn-bits l.loop-i.sd-bits) (omega arith) l.loop-i.invariant.2 _ _ _ (read m.before.before.before.before.before ∙ a.in-Done.is)
-    (sym a.checked_add.ensures.0 ∙ b.in-Done-checked_add.is) (sym b.checked_mul-in-loop-i.ensures.0 ∙ c.in_default-checked_mul.is)
+    third-over (terms_of s.self) s.x l.loop-i.i (fraction l.loop-i.pn-bits l.loop-i.pd-bits) (fraction l.loop-i.sn-bits l.loop-i.sd-bits) (omega arith) l.loop-i.invariant.2 _ _ _ (read m.before.before.before.before.before ∙ a.in-Ok.is)
+    (sym a.checked_add.ensures.0 ∙ b.in-Ok-checked_add.is) (sym b.checked_mul-in-loop-i.ensures.0 ∙ c.in_default-checked_mul.is)
 
 add-i : tie.Need-overflow_add-i invariant-loop decreases-loop
 add-i c = omega arith
@@ -116,9 +116,9 @@ loop-again c =
     let s = l.args in (
       l.loop-i.invariant.0,
       l.loop-i.invariant.1,
-      valued-kept (terms_of s.self) s.x (l.loop-i.i + 1) c.in-Done-checked_mul.p b.in-Done-checked_add.s (record { sfits = c.struct_told-in-loop-i-2-1.given.0.1 }) (record { sfits = c.struct_told-in-loop-i-3-1.given.1.0.1 }) (record { sfits = c.struct_told-1.given.0.1 }) (record { sfits = c.struct_told-in-loop-i-1.given.1.0.1 })
-          (valued-more (terms_of s.self) s.x l.loop-i.i (fraction l.loop-i.pn-bits l.loop-i.pd-bits) (fraction l.loop-i.sn-bits l.loop-i.sd-bits) (omega arith) l.loop-i.invariant.2 _ _ _ (read m.before.before.before.before.before.before.before.before.before ∙ a.in-Done.is)
-          (sym a.checked_add.ensures.0 ∙ b.in-Done-checked_add.is) (sym b.checked_mul-in-loop-i.ensures.0 ∙ c.in-Done-checked_mul.is)),
+      valued-kept (terms_of s.self) s.x (l.loop-i.i + 1) c.in-Ok-checked_mul.p b.in-Ok-checked_add.s (record { sfits = c.struct_told-in-loop-i-2-1.given.0.1 }) (record { sfits = c.struct_told-in-loop-i-3-1.given.1.0.1 }) (record { sfits = c.struct_told-1.given.0.1 }) (record { sfits = c.struct_told-in-loop-i-1.given.1.0.1 })
+          (valued-more (terms_of s.self) s.x l.loop-i.i (fraction l.loop-i.pn-bits l.loop-i.pd-bits) (fraction l.loop-i.sn-bits l.loop-i.sd-bits) (omega arith) l.loop-i.invariant.2 _ _ _ (read m.before.before.before.before.before.before.before.before.before ∙ a.in-Ok.is)
+          (sym a.checked_add.ensures.0 ∙ b.in-Ok-checked_add.is) (sym b.checked_mul-in-loop-i.ensures.0 ∙ c.in-Ok-checked_mul.is)),
     )
 
 returns-4 : tie.Need-returns invariant-loop decreases-loop

@@ -1,4 +1,7 @@
 -- `terms::Poly::zip` meets its contract. The loop's invariant: the first i sums or differences are made.
+use Rattle.ratio.specs.declared.Reason.{Reason}
+use Rattle.ratio.specs.declared.Ratio.{Ratio}
+use Rattle.std.specs.Prelude.{Result}
 use mathlib.Core.Path.{◌≡◌, refl, sym, ap, ap₂, ◌∙◌}
 use Prim.Native.Nat.{ℕ, ◌≤◌, ◌-◌, ◌+◌, max}
 use mathlib.Core.Bool.{Bool}
@@ -6,7 +9,6 @@ use native.Mathlib.Omega.{arith}
 use lib.ListN.{length, get_or, length-set}
 use borrow.Author.Rules.{rules}
 use Rattle.ratio.specs.Refusal.{zero_r}
-use Rattle.ratio.specs.declared.Step.{Step}
 use Rattle.terms.specs.declared.Poly.{Poly}
 use Rattle.terms.specs.Poly.{terms_of}
 use Rattle.terms.specs.Pairs.{pairs}
@@ -20,7 +22,7 @@ use Rattle.terms.proofs.Poly.zip.Statement.{statement}
 use Rattle.terms.proofs.Poly.zip.Tie as tie
 
 -- the step of turn i
-abbrev turn : Poly → Poly → Bool → ℕ → Step
+abbrev turn : Poly → Poly → Bool → ℕ → Result Ratio Reason
 turn self other subtract i = step_of (op_if subtract) (get_or (terms_of self) i zero_r) (get_or (terms_of other) i zero_r)
 
 abbrev invariant-loop : tie.invariant-loop-i
@@ -140,8 +142,8 @@ loop-again c =
       omega arith,
       length-set l.loop-i.nums l.loop-i.i _ ∙ l.loop-i.invariant.5,
       length-set l.loop-i.dens l.loop-i.i _ ∙ l.loop-i.invariant.6,
-      pairs-write l.loop-i.nums l.loop-i.dens l.loop-i.invariant.5 l.loop-i.invariant.6 (Counted (turn s.self s.other s.subtract) (max (length (terms_of s.self)) (length (terms_of s.other))) (l.loop-i.i + 1)) l.loop-i.i k.in-Done.s (record { sfits = c.struct_told-1.given.0.1 }) (record { sfits = c.struct_told-in-loop-i-1.given.1.0.1 })
-          (counted-more (turn s.self s.other s.subtract) (max (length (terms_of s.self)) (length (terms_of s.other))) l.loop-i.i out _ (omega arith) (omega (arith, pairs-32 l.loop-i.nums l.loop-i.dens l.loop-i.invariant.5 l.loop-i.invariant.6)) (step m.before.before.before ∙ k.in-Done.is) l.loop-i.invariant.7),
+      pairs-write l.loop-i.nums l.loop-i.dens l.loop-i.invariant.5 l.loop-i.invariant.6 (Counted (turn s.self s.other s.subtract) (max (length (terms_of s.self)) (length (terms_of s.other))) (l.loop-i.i + 1)) l.loop-i.i k.in-Ok.s (record { sfits = c.struct_told-1.given.0.1 }) (record { sfits = c.struct_told-in-loop-i-1.given.1.0.1 })
+          (counted-more (turn s.self s.other s.subtract) (max (length (terms_of s.self)) (length (terms_of s.other))) l.loop-i.i out _ (omega arith) (omega (arith, pairs-32 l.loop-i.nums l.loop-i.dens l.loop-i.invariant.5 l.loop-i.invariant.6)) (step m.before.before.before ∙ k.in-Ok.is) l.loop-i.invariant.7),
     )
 
 slice-aggregate-joined : tie.Need-slice_bounds-joined-end invariant-loop decreases-loop
