@@ -1,25 +1,26 @@
 -- What a fraction's float is, and the promise of it.
 use Rattle.std.proofs.Common.{◌≡◌, ◌≤◌, Bool, true, false, pos, nat_abs, sym, refl, ap, ◌∙◌, subst, true≢false, arith}
 use lib.Signed.{lt_z}
-use lib.Ieee.{binary64, of_int, round}
+use lib.Ieee.{Float, binary64, of_int, round}
+use Rattle.std.specs.Prelude.{Result, Ok, Err}
+use Rattle.ratio.specs.Refusal.{status_of}
 use Rattle.ratio.specs.Step.{is_fraction, differ}
 use Rattle.ratio.specs.Promise.{Fraction}
 use Rattle.ratio.specs.declared.Ratio.{Ratio}
+use Rattle.ratio.specs.declared.Reason.{Reason}
 use Rattle.ratio.specs.declared.Reason.TheVariants.{BadInput}
 use Rattle.ratio.proofs.Words.{differ-is, size_above}
 use Rattle.ratio.proofs.Fractions.{fraction-of, fraction-is}
-use Rattle.bridge.specs.declared.Rounded.{Rounded}
-use Rattle.bridge.specs.declared.Rounded.TheVariants.{Done, Refused}
-use Rattle.bridge.specs.Refusal.{float_status, float_of}
+use Rattle.bridge.specs.Refusal.{float_of}
 use Rattle.bridge.specs.Value.{value_of, to_float}
 use Rattle.bridge.specs.Promise.{exact, Floats}
 use Rattle.bridge.proofs.Whole.{has_value, div-at}
 
-pub float-no : (r : Ratio) → is_fraction r ≡ false → Refused BadInput ≡ to_float r
+pub float-no : (r : Ratio) → is_fraction r ≡ false → Err BadInput ≡ to_float r
 unfolding to_float
 float-no r h = rw h
 
-pub float-yes : (r : Ratio) → is_fraction r ≡ true → Done (value_of r) ≡ to_float r
+pub float-yes : (r : Ratio) → is_fraction r ≡ true → Ok (value_of r) ≡ to_float r
 unfolding to_float
 float-yes r h = rw h
 
@@ -36,7 +37,7 @@ floats-by r true e =
     let is = float-yes r e in
     let f = fraction-of r e in
     record {
-      answered = λ g. ap float_status (sym is);
+      answered = λ g. ap status_of (sym is);
       only = λ z. f;
       bad = λ no. absurd (no f);
       nearest = λ g n d. ap float_of (sym is) ∙ value-nearest r f n d;
@@ -46,10 +47,10 @@ floats-by r false e =
     let no : Fraction r → ⊥ = λ f. true≢false (sym (fraction-is r f) ∙ e) in
     record {
       answered = λ f. absurd (no f);
-      only = λ z. absurd (omega (arith, ap float_status is));
-      bad = λ g. ap float_status (sym is);
+      only = λ z. absurd (omega (arith, ap status_of is));
+      bad = λ g. ap status_of (sym is);
       nearest = λ f n d. absurd (no f);
     }
 
-pub floats-both : (r : Ratio) (x : Rounded) → x ≡ to_float r → (x ≡ to_float r) × Floats r x
-floats-both r x e = (e, subst (λ (y : Rounded). Floats r y) (sym e) (floats-by r (is_fraction r) refl))
+pub floats-both : (r : Ratio) (x : Result Float Reason) → x ≡ to_float r → (x ≡ to_float r) × Floats r x
+floats-both r x e = (e, subst (λ (y : Result Float Reason). Floats r y) (sym e) (floats-by r (is_fraction r) refl))

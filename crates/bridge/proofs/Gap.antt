@@ -11,7 +11,8 @@ use lib.Ieee.Exact.{HasValue}
 use lib.Ieee.Nearest.{closest}
 use lib.Ieee.Scale.{round_same}
 use Rattle.bridge.specs.Round.{half_upward}
-use Rattle.bridge.specs.Search.{absolute, small}
+use Rattle.std.specs.Float.{float_with_sign}
+use Rattle.bridge.specs.Search.{small}
 use Rattle.bridge.proofs.Signs.{neg-units}
 
 -- ---- distances of whole numbers
@@ -105,7 +106,7 @@ closest-gap a b B = nearest-gap (compare (a % b * 2) b) (a / b) (a % b) b a (div
 -- ---- a difference
 
 small-neg : (z : Float) → small (neg z) ≡ small z
-unfolding small absolute neg
+unfolding small float_with_sign neg
 small-neg nan = refl
 small-neg (inf s) = refl
 small-neg (fin s m e) = refl

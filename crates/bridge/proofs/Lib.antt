@@ -8,3 +8,4 @@ pub mod Finds
 pub mod Count
 pub mod Gap
 pub mod Snap
+pub mod Auto

@@ -1,8 +1,8 @@
--- The float of a negative whole number is that of its size, negated. And which whole numbers are floats themselves.
-use Rattle.std.proofs.Common.{◌≡◌, ℕ, zero, suc, ◌+◌, ◌*◌, ◌^◌, ◌<◌, ◌≤◌, Bool, true, false, cond, T, ltb, ℤ, pos, negsuc, nat_abs, sym, refl, ap, ◌∙◌, subst, true≢false, arith, lt→ltb, leb→le}
+-- The float of a negative whole number is that of its size, negated.
+use Rattle.std.proofs.Common.{◌≡◌, ℕ, zero, suc, ◌+◌, ◌*◌, ◌^◌, Bool, true, false, cond, ltb, ℤ, pos, negsuc, nat_abs, sym, refl, ap, ◌∙◌, true≢false}
 use mathlib.Core.Bool.{false≢true}
-use lib.Signed.{lt_z, le_z}
-use lib.Ieee.{inf, Format, binary64, prec, emax, low, odd, units, neg, of_int, in_float}
+use lib.Signed.{lt_z}
+use lib.Ieee.{inf, Format, prec, emax, low, odd, units, neg, of_int}
 use lib.Ieee.Fits.{round_is}
 use Rattle.ratio.proofs.Words.{pos-neg}
 
@@ -30,12 +30,3 @@ below f (negsuc n) h = negated f n
 pub above : (f : Format) (n : ℤ) → lt_z n (pos 0) ≡ false → of_int f (pos (nat_abs n)) ≡ of_int f n
 above f (pos n) h = refl
 above f (negsuc n) h = absurd (true≢false h)
-
--- what `nearest_i64` tests: up to 2 ^ 53 either way a number can be cast
-pub exact-in : (z : ℤ) → le_z z (pos 9007199254740992) ≡ true → le_z (negsuc 9007199254740991) z ≡ true → T (in_float binary64 z)
-unfolding in_float
-exact-in (pos n) h k = subst T (sym h) tt
-exact-in (negsuc n) h k = lt→ltb n 9007199254740992 (next n (leb→le n 9007199254740991 (subst T (sym k) tt)))
-  where
-    next : (n : ℕ) → n ≤ 9007199254740991 → n < 9007199254740992
-    next n h = omega arith

@@ -9,7 +9,8 @@ use lib.Ieee.Back.{round_whole}
 use Rattle.ratio.specs.Step.{signed}
 use Rattle.ratio.proofs.Words.{pos-neg}
 use Rattle.bridge.specs.Round.{half_upward, size_of, saturated, round_of}
-use Rattle.bridge.specs.Search.{absolute, small, scaled, near}
+use Rattle.std.specs.Float.{float_with_sign}
+use Rattle.bridge.specs.Search.{small, scaled, near}
 use Rattle.bridge.specs.Promise.{exact}
 
 -- ---- the value of such a float
@@ -99,7 +100,7 @@ less-itself f (fin false m e) s a h =
     let x = m * up e * down e in rw (le-ltb x x (omega arith)) (nothing f x (down e * down e) (mul-pos (down_pos e) (down_pos e)))
 
 zero-small : small (round binary64 false 0 1) ≡ true
-unfolding small absolute lt round of_bits
+unfolding small float_with_sign lt round of_bits
 zero-small = refl
 
 one_float : of_int binary64 (pos 1) ≡ fin false 1 (pos 0)
@@ -126,7 +127,7 @@ near-one n h =
 -- ---- the ends of the range
 
 pub near-top : near (of_int binary64 (pos 9223372036854775808)) 1 ≡ true
-unfolding near small absolute round_of size_of half_upward mul sub add neg sum round of_int lt of_bits
+unfolding near small float_with_sign round_of size_of half_upward mul sub add neg sum round of_int lt of_bits
 near-top = refl
 
 pub back-top : round_of (scaled (of_int binary64 (pos 9223372036854775808)) 1) ≡ pos 9223372036854775807
@@ -134,7 +135,7 @@ unfolding round_of size_of half_upward mul round of_int
 back-top = refl
 
 pub near-least : near (of_int binary64 (negsuc 9223372036854775807)) 1 ≡ true
-unfolding near small absolute round_of size_of half_upward mul sub add neg sum round of_int lt of_bits
+unfolding near small float_with_sign round_of size_of half_upward mul sub add neg sum round of_int lt of_bits
 near-least = refl
 
 pub back-least : round_of (scaled (of_int binary64 (negsuc 9223372036854775807)) 1) ≡ negsuc 9223372036854775807

@@ -11,8 +11,7 @@ use Rattle.ratio.specs.Refusal.{status_of, ratio_of}
 use Rattle.ratio.specs.Step.{differ}
 use Rattle.ratio.specs.Promise.{rat, Fraction, Lowest}
 use Rattle.ratio.specs.declared.Ratio.{Ratio}
-use Rattle.bridge.specs.declared.Rounded.{Rounded}
-use Rattle.bridge.specs.Refusal.{float_status, float_of}
+use Rattle.bridge.specs.Refusal.{float_of}
 use Rattle.bridge.specs.Round.{round_of}
 use Rattle.bridge.specs.Search.{scaled, near}
 
@@ -21,10 +20,10 @@ abbrev pub exact : ℕ
 exact = 9007199254740992
 
 -- answered exactly for a fraction; of entries that are floats themselves the answer is the float nearest to the fraction
-pub record Floats (r : Ratio) (x : Rounded) : Type 0 where
-  pub answered : Fraction r → float_status x ≡ 0
-  pub only : float_status x ≡ 0 → Fraction r
-  pub bad : (Fraction r → ⊥) → float_status x ≡ 5
+pub record Floats (r : Ratio) (x : Result Float Reason) : Type 0 where
+  pub answered : Fraction r → status_of x ≡ 0
+  pub only : status_of x ≡ 0 → Fraction r
+  pub bad : (Fraction r → ⊥) → status_of x ≡ 5
   pub nearest : Fraction r → unsigned_abs r.num ≤ exact → unsigned_abs r.den ≤ exact
       → float_of x ≡ round binary64 (differ (int_lt r.num (pos 0)) (int_lt r.den (pos 0))) (unsigned_abs r.num) (unsigned_abs r.den)
 

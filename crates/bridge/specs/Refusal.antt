@@ -1,14 +1,8 @@
--- Document 01, refusal numbers: the number and the value of a float's answer. 0 is done; a refusal hands back the float zero.
-use Rattle.std.specs.Prelude.{ℕ, from_bits, Float}
+-- Document 01, refusal numbers: the value of a float's answer. A refusal hands back the float zero.
+use Rattle.std.specs.Prelude.{from_bits, Float, Result, Ok, Err}
 use Rattle.std.specs.Float.{binary64}
-use Rattle.ratio.specs.Refusal.{number_of}
-use Rattle.bridge.specs.declared.Rounded.{Rounded}
-use Rattle.bridge.specs.declared.Rounded.TheVariants.{Done, Refused}
+use Rattle.ratio.specs.declared.Reason.{Reason}
 
-abbrev pub float_status : Rounded → ℕ
-float_status (Done x) = 0
-float_status (Refused why) = number_of why
-
-abbrev pub float_of : Rounded → Float
-float_of (Done x) = x
-float_of (Refused why) = from_bits binary64 0
+abbrev pub float_of : Result Float Reason → Float
+float_of (Ok x) = x
+float_of (Err why) = from_bits binary64 0

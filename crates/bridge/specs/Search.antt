@@ -2,7 +2,7 @@
 use Rattle.ratio.specs.declared.Reason.{Reason}
 use Rattle.ratio.specs.declared.Ratio.{Ratio}
 use Rattle.std.specs.Prelude.{ℕ, zero, suc, Bool, true, false, ℤ, pos, from_bits, Float, Result, Err}
-use Rattle.std.specs.Float.{nan, inf, fin, binary64}
+use Rattle.std.specs.Float.{binary64, float_with_sign}
 use Rattle.std.specs.Float.Ieee.{of_int, mul, sub, lt}
 use Rattle.std.specs.Float.Ieee.Scale.{finite}
 use Rattle.ratio.specs.Range.{within, need}
@@ -10,17 +10,13 @@ use Rattle.ratio.specs.Step.{new_of}
 use Rattle.ratio.specs.declared.Reason.TheVariants.{NotPolynomial, CoeffOverflow}
 use Rattle.bridge.specs.Round.{round_of}
 
-unfoldable pub absolute : Float → Float
-absolute nan = nan
-absolute (inf s) = inf false
-absolute (fin s m e) = fin false m e
-
 -- the float nearest to 1e-9
 abbrev pub tolerance : Float
 tolerance = from_bits binary64 0x3e11_2e0b_e826_d695
 
+-- below it in size
 unfoldable pub small : Float → Bool
-small x = lt (absolute x) tolerance
+small x = lt (float_with_sign false x) tolerance
 
 -- v·d, one rounding
 abbrev pub scaled : Float → ℕ → Float

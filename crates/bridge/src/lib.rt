@@ -13,13 +13,6 @@ ghost use Rattle.bridge.specs.Promise.{Floats, Finds};
 
 use ratio::{Ratio, Reason};
 
-// The float of a fraction.
-#[derive(Clone, Copy)]
-pub enum Rounded {
-    Done(f64),
-    Refused(Reason),
-}
-
 // ---- whole numbers to floats
 
 // The float of n. Each half of n is a float exactly, and so is the upper one times 2^32: only the sum rounds.
@@ -30,6 +23,7 @@ fn nearest_u64(n: u64) -> f64
 }
 
 // The float of the size, with the sign.
+#[tactic(auto, using(crate::proofs::Auto::signs))]
 fn nearest_signed(n: i64) -> f64
     ensures { result ≡ Ieee.of_int binary64 n }
 {
@@ -41,10 +35,8 @@ fn nearest_signed(n: i64) -> f64
 fn nearest_i64(n: i64) -> f64
     ensures { result ≡ Ieee.of_int binary64 n }
 {
-    if n <= 9007199254740992 {
-        if n >= -9007199254740992 {
-            return n as f64;
-        }
+    if n <= 9007199254740992 && n >= -9007199254740992 {
+        return n as f64;
     }
     nearest_signed(n)
 }
@@ -52,20 +44,23 @@ fn nearest_i64(n: i64) -> f64
 // ---- fractions to floats
 
 // The quotient of any two entries, without a test.
+#[tactic(auto, unfolding(crate::specs::Value::value_of))]
 pub fn plain_to_f64(r: Ratio) -> f64
     ensures is { result ≡ value_of r }
 {
     nearest_i64(r.num) / nearest_i64(r.den)
 }
 
-pub fn ratio_to_f64(r: Ratio) -> Rounded
+// The float of a fraction.
+#[tactic(auto, using(crate::proofs::Auto::floats), unfolding(crate::specs::Value::to_float))]
+pub fn ratio_to_f64(r: Ratio) -> Result<f64, Reason>
     ensures is { result ≡ to_float r }
     ensures promise { Floats r result }
 {
     if ratio::is_fraction(r) {
-        Rounded::Done(plain_to_f64(r))
+        Ok(plain_to_f64(r))
     } else {
-        Rounded::Refused(Reason::BadInput)
+        Err(Reason::BadInput)
     }
 }
 
@@ -82,6 +77,7 @@ fn round_size(a: f64) -> u64
 }
 
 // `v.round() as i64`: a half away from zero, saturated, 0 at a NaN.
+#[tactic(auto, using(crate::proofs::Auto::rounds))]
 fn round(v: f64) -> i64
     ensures { result ≡ round_of v }
 {
@@ -102,22 +98,23 @@ fn round(v: f64) -> i64
 
 // ---- floats to fractions
 
+#[tactic(auto, using(crate::proofs::Auto::finites))]
 pub fn is_finite(v: f64) -> bool
     ensures is { result ≡ finite v }
 {
-    let infinity: f64 = 1.0 / 0.0;
-    if v < infinity { v > -infinity } else { false }
+    v.is_finite()
 }
 
-// `x.abs() < 1e-9`, by two tests.
+#[tactic(auto, unfolding(crate::specs::Search::small))]
 fn is_small(x: f64) -> bool
     ensures { result ≡ small x }
 {
-    if x < 1e-9 { x > -1e-9 } else { false }
+    x.abs() < 1e-9
 }
 
 // Whether x is close to the whole number that it rounds to. Below 2^52 the sum with 2^52 leaves no digit to a fraction, so that
 // it rounds to a whole number: to an even one at a half, which is close to none.
+#[tactic(auto, using(crate::proofs::Auto::snaps))]
 fn is_near(x: f64) -> bool
     ensures { result ≡ small (Ieee.sub binary64 x (Ieee.of_int binary64 (round_of x))) }
 {
@@ -134,6 +131,7 @@ fn is_near(x: f64) -> bool
 }
 
 // `Ratio::new`, with -2^63 kept out.
+#[tactic(auto, using(crate::proofs::Auto::overs), unfolding(crate::specs::Search::over))]
 fn fraction(numer: i64, denom: u64) -> Result<Ratio, Reason>
     requires { denom ≤ 1000 }
     ensures { result ≡ over numer denom }

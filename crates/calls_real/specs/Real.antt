@@ -1,11 +1,10 @@
 -- Floats, real roots and expressions for programs in other languages: what each call answers, and which lent entries are written.
-use Rattle.std.specs.Prelude.{List, [], ◌∷◌, ℕ, leb, Float, ℤ}
+use Rattle.std.specs.Prelude.{List, [], ◌∷◌, ℕ, leb, Float, ℤ, Result, Ok, Err}
+use Rattle.ratio.specs.declared.Reason.{Reason}
 use Rattle.terms.specs.declared.Answer.{Answer}
 use Rattle.poly.specs.declared.Gate.{Gate}
 use Rattle.poly.specs.Door.{open_if, both, entered}
 use Rattle.poly.specs.Parts.{parts_of}
-use Rattle.bridge.specs.declared.Rounded.{Rounded}
-use Rattle.bridge.specs.declared.Rounded.TheVariants.{Done, Refused}
 use Rattle.sturm.specs.declared.Count.{Count}
 use Rattle.sturm.specs.Count.{ends_of, no_count, count_for}
 use Rattle.isolate.specs.declared.Isolation.{Isolation}
@@ -16,9 +15,9 @@ use Rattle.horner.specs.Written as H
 use Rattle.calls.specs.Call.{gate_of}
 
 -- the float of an answer; a refusal leaves what was there
-abbrev pub lent_float : List Float → Rounded → List Float
-lent_float old (Done x) = x ∷ []
-lent_float old (Refused why) = old
+abbrev pub lent_float : List Float → Result Float Reason → List Float
+lent_float old (Ok x) = x ∷ []
+lent_float old (Err why) = old
 
 -- 5, then 4, comes before any work
 abbrev pub counted_with : Answer → Float → Float → Count

@@ -5,14 +5,12 @@
 ghost use Rattle.std.specs.Prelude.{◌≡◌, leb};
 ghost use Rattle.ratio.specs.Refusal.{status_of};
 ghost use Rattle.poly.specs.Door.{open_if};
-ghost use Rattle.bridge.specs.Refusal.{float_status};
 ghost use Rattle.bridge.specs.Value.{to_float};
 ghost use Rattle.bridge.specs.Search.{to_ratio};
 ghost use Rattle.lower.specs.Run.{lower_of};
 ghost use Rattle.calls.specs.Call.{nums_of, dens_of, number_told, lent_after, lent_step};
 ghost use Rattle.calls_real.specs.Real.{lent_float, counted_of, isolated_of, written_of, page_of};
 
-use bridge::Rounded;
 use isolate::Isolation;
 use poly::Gate;
 use ratio::Ratio;
@@ -22,16 +20,16 @@ use sturm::Count;
 
 // The float of n / d. Handed back: the status.
 pub fn kanrosuye_to_float(n: i64, d: i64, out: &mut [f64; 1]) -> u64
-    ensures is { result ≡ float_status (to_float (record { num = n; den = d })) }
+    ensures is { result ≡ status_of (to_float (record { num = n; den = d })) }
     ensures lent { out.new ≡ lent_float out.old (to_float (record { num = n; den = d })) }
 {
     let x = bridge::ratio_to_f64(Ratio { num: n, den: d });
     match x {
-        Rounded::Done(v) => {
+        Ok(v) => {
             *out = [v];
             0
         }
-        Rounded::Refused(why) => ratio::number(why),
+        Err(why) => ratio::number(why),
     }
 }
 

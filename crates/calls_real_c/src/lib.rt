@@ -3,7 +3,6 @@
 
 ghost use Rattle.std.specs.Prelude.{◌≡◌};
 ghost use Rattle.ratio.specs.Refusal.{status_of};
-ghost use Rattle.bridge.specs.Refusal.{float_status};
 ghost use Rattle.bridge.specs.Value.{to_float};
 ghost use Rattle.bridge.specs.Search.{to_ratio};
 ghost use Rattle.lower.specs.Run.{lower_of};
@@ -13,7 +12,7 @@ ghost use Rattle.calls_real.specs.Real.{lent_float, counted_of, isolated_of, wri
 // The float of n / d. Handed back: the status.
 #[unsafe(no_mangle)]
 pub extern "C" fn kanrosuye_to_float(n: i64, d: i64, out: &mut [f64; 1]) -> u64
-    ensures is { result ≡ float_status (to_float (record { num = n; den = d })) }
+    ensures is { result ≡ status_of (to_float (record { num = n; den = d })) }
     ensures lent { out.new ≡ lent_float out.old (to_float (record { num = n; den = d })) }
 {
     calls_real::kanrosuye_to_float(n, d, out)

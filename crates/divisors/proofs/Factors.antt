@@ -1,7 +1,7 @@
 -- A smaller and a larger factor of a number; a marked number is the smaller one of such a pair.
 use mathlib.Core.Path.{◌≡◌, refl, subst}
 use mathlib.Core.Bool.{Bool, true, false, ◌&&◌}
-use Prim.Native.Nat.{ℕ, zero, suc, ◌*◌, ◌/◌, ◌%◌, ◌<◌, ◌≤◌}
+use Prim.Native.Nat.{ℕ, suc, ◌*◌, ◌/◌, ◌%◌, ◌<◌, ◌≤◌}
 use native.Mathlib.Nat.{mul-le-mul_left, dvd_of_mod-eq-zero, mul-div_cancel'}
 use native.Mathlib.Decide.{dec_le}
 use native.Mathlib.Omega.{arith}

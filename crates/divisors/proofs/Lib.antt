@@ -1,6 +1,5 @@
 pub mod Words
 pub mod Skip
-pub mod Entries
 pub mod Next
 pub mod Rest
 pub mod Walks
@@ -10,4 +9,3 @@ pub mod Factors
 pub mod Small
 pub mod Once
 pub mod Lists
-pub mod Listed

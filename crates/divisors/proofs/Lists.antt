@@ -1,5 +1,4 @@
 -- `listing_of` keeps its promise: it refuses exactly where it should, and an answered listing holds each divisor once.
-use Rattle.std.specs.Prelude.{Ok}
 use mathlib.Core.Path.{◌≡◌, refl, sym, ap, ◌∙◌, subst}
 use mathlib.Core.List.{[]}
 use Prim.Native.Nat.{ℕ, ◌+◌, ◌*◌, ◌<◌, ◌≤◌, ◌∣◌}
@@ -102,5 +101,7 @@ module _ (n : ℤ) (budget : ℕ) where
       by (yes a) (no b) (yes d) (no e) = subst (Lists n budget) (sym (listing-done n budget a b d (omega arith))) (done (record { number = a; some = omega arith; most = d }) (omega arith))
 
 -- a listing that is the model's keeps its promise too
-pub listed-both : {n : ℤ} {budget : ℕ} {l : Listing} → l ≡ listing_of n budget → (l ≡ listing_of n budget) × Lists n budget l
-listed-both {n} {budget} e = (e, subst (Lists n budget) (sym e) (lists n budget))
+pub listed_is : {n : ℤ} {budget : ℕ} {l : Listing} → l ≡ listing_of n budget → Lists n budget l
+listed_is {n} {budget} e = subst (Lists n budget) (sym e) (lists n budget)
+
+pub ruleset listing_steps = (listed_is, square_le, listing-large, listing_none, listing-over, listing-budget, listing-done)

@@ -1,4 +1,5 @@
 -- What is left of a listing at a place: its first entry and what is left behind that, up to the end.
+use Rattle.std.specs.Prelude.{Some, None}
 use mathlib.Core.Path.{◌≡◌, refl, sym, ap, ap₂, ◌∙◌}
 use mathlib.Core.Bool.{Bool, true, false, ◌&&◌, cond}
 use mathlib.Core.List.{List, [], ◌∷◌, ◌++◌}
@@ -9,18 +10,17 @@ use lib.Dec.{leb, eqb}
 use lib.IntN.{ℤ}
 use lib.ListN.{drop}
 use Rattle.ratio.specs.Range.{limit}
-use Rattle.divisors.specs.declared.Entry.TheVariants.{Is, Nothing}
 use Rattle.divisors.specs.Listing.{entries, others, keep}
 use Rattle.divisors.specs.Walk.{marked, rest, rest_after, mark_from, entry_of, entry_if}
 use Rattle.divisors.proofs.Next.{inside}
 
 -- a list from a place on, by the entry at that place
-pub drop-entry : (l : List ℤ) (k : ℕ) (z : ℤ) → entry_of l k ≡ Is z → drop k l ≡ z ∷ drop (suc k) l
+pub drop-entry : (l : List ℤ) (k : ℕ) (z : ℤ) → entry_of l k ≡ Some z → drop k l ≡ z ∷ drop (suc k) l
 drop-entry [] k z e = absurd (let f : ◌≡◌ {A = ℕ} 0 1 = cc in omega arith)
 drop-entry (x ∷ l) zero z e = let f : x ≡ z = cc in ap (λ y. y ∷ l) f
 drop-entry (x ∷ l) (suc k) z e = drop-entry l k z e
 
-pub drop-nothing : (l : List ℤ) (k : ℕ) → entry_of l k ≡ Nothing → drop k l ≡ []
+pub drop-nothing : (l : List ℤ) (k : ℕ) → entry_of l k ≡ None → drop k l ≡ []
 drop-nothing [] zero e = refl
 drop-nothing [] (suc k) e = refl
 drop-nothing (x ∷ l) zero e = absurd (let f : ◌≡◌ {A = ℕ} 0 1 = cc in omega arith)
@@ -68,19 +68,19 @@ module _ (size : ℕ) (marks : List ℕ) where
       by true f g = ap₂ (λ a b. entries size (j + 1) ++ rest_after size marks a b) (let e : k ≡ j + suc k - (j + 1) = omega arith in e) (let e : suc j ≡ j + 1 = omega arith in e)
       by false f g = g (omega arith) ∙ ap (λ a. entries size (mark_from size marks k (suc j) + 1) ++ rest_after size marks a (mark_from size marks k (suc j) + 1)) (let e : suc j + k - (mark_from size marks k (suc j) + 1) ≡ j + suc k - (mark_from size marks k (suc j) + 1) = omega arith in e)
 
-  pub left-entry : (j k : ℕ) (z : ℤ) → entry_if (marked size marks j) (entry_of (entries size (j + 1)) k) ≡ Is z → left size marks j k ≡ z ∷ left size marks j (suc k)
+  pub left-entry : (j k : ℕ) (z : ℤ) → entry_if (marked size marks j) (entry_of (entries size (j + 1)) k) ≡ Some z → left size marks j k ≡ z ∷ left size marks j (suc k)
   unfolding left
   left-entry j k z = by (marked size marks j)
     where
-      by : (t : Bool) → entry_if t (entry_of (entries size (j + 1)) k) ≡ Is z → keep t (drop k (entries size (j + 1))) ++ rest_after size marks (65535 - j) (j + 1) ≡ z ∷ (keep t (drop (suc k) (entries size (j + 1))) ++ rest_after size marks (65535 - j) (j + 1))
+      by : (t : Bool) → entry_if t (entry_of (entries size (j + 1)) k) ≡ Some z → keep t (drop k (entries size (j + 1))) ++ rest_after size marks (65535 - j) (j + 1) ≡ z ∷ (keep t (drop (suc k) (entries size (j + 1))) ++ rest_after size marks (65535 - j) (j + 1))
       by true e = ap (λ l. l ++ rest_after size marks (65535 - j) (j + 1)) (drop-entry (entries size (j + 1)) k z e)
       by false e = absurd (let f : ◌≡◌ {A = ℕ} 0 1 = cc in omega arith)
 
-  pub left-nothing : (j k : ℕ) → entry_if (marked size marks j) (entry_of (entries size (j + 1)) k) ≡ Nothing → left size marks j k ≡ rest_after size marks (65535 - j) (j + 1)
+  pub left-nothing : (j k : ℕ) → entry_if (marked size marks j) (entry_of (entries size (j + 1)) k) ≡ None → left size marks j k ≡ rest_after size marks (65535 - j) (j + 1)
   unfolding left
   left-nothing j k = by (marked size marks j)
     where
-      by : (t : Bool) → entry_if t (entry_of (entries size (j + 1)) k) ≡ Nothing → keep t (drop k (entries size (j + 1))) ++ rest_after size marks (65535 - j) (j + 1) ≡ rest_after size marks (65535 - j) (j + 1)
+      by : (t : Bool) → entry_if t (entry_of (entries size (j + 1)) k) ≡ None → keep t (drop k (entries size (j + 1))) ++ rest_after size marks (65535 - j) (j + 1) ≡ rest_after size marks (65535 - j) (j + 1)
       by true e = ap (λ l. l ++ rest_after size marks (65535 - j) (j + 1)) (drop-nothing (entries size (j + 1)) k e)
       by false e = refl
 

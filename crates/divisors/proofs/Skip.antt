@@ -160,3 +160,7 @@ clear_in marks j r h c = record {
       ap₂ (λ n m. eqb (get_or marks n 0 / 2 ^ m % 2) 1) (let e : (j + b) / 64 ≡ j / 64 = omega (arith, c.inside) in e) (let e : (j + b) % 64 ≡ j % 64 + b = omega (arith, c.inside) in e)
       ∙ c.unset b g;
 }
+
+pub ruleset clear_steps = (clear-end, clear-zeros, clear-empty, clear_in)
+
+pub ruleset mark_steps = (mark-skip)

@@ -1,4 +1,5 @@
 -- `next_of` walks: what it finds is the first of what is left, and it goes on behind that.
+use Rattle.std.specs.Prelude.{Option, Some, None}
 use mathlib.Core.Path.{◌≡◌, refl, sym, ap, ap₂, ◌∙◌, subst}
 use mathlib.Core.Bool.{true}
 use mathlib.Core.List.{List, [], ◌∷◌, ◌++◌}
@@ -8,30 +9,28 @@ use native.Mathlib.Omega.{arith}
 use borrow.Author.Tests.{lt-ltb, le-ltb}
 use lib.IntN.{ℤ, pos}
 use lib.ListN.{drop}
+use mir.Facts.{to_z-of_z}
 use Rattle.ratio.specs.Range.{limit}
-use Rattle.divisors.specs.declared.Entry.{Entry}
-use Rattle.divisors.specs.declared.Entry.TheVariants.{Is, Nothing}
-use Rattle.divisors.specs.declared.Found.{Found}
-use Rattle.divisors.specs.declared.Found.TheVariants.{At, End}
+use Rattle.divisors.specs.declared.Factor.{Factor}
 use Rattle.divisors.specs.Listing.{entries, keep}
-use Rattle.divisors.specs.Walk.{marked, rest, rest_after, mark_from, found_if, first_of, here_of, next_of}
+use Rattle.divisors.specs.Walk.{marked, rest, rest_after, mark_from, found_at, found_if, first_of, here_of, next_of}
 use Rattle.divisors.specs.Promise.{Walks}
 use Rattle.divisors.proofs.Next.{next-zero, next-zero-end, next-large, next-out, next_here, next-after}
 use Rattle.divisors.proofs.Skip.{mark-le, mark-ge, mark_set}
 use Rattle.divisors.proofs.Rest.{left, left-entry, left-nothing, left-four, left-first, from-none, from_end, from-mark, rest-inside, rest-large, rest_out}
 
 module _ (size : ℕ) (marks : List ℕ) (at : ℕ) where
-  walks-end : rest size marks at ≡ [] → Walks size marks at End
+  walks-end : rest size marks at ≡ [] → Walks size marks at None
   walks-end e = record {
-    found = λ z next f. absurd (let g : ◌≡◌ {A = ℕ} 0 1 = cc in omega arith);
-    forward = λ z next f. absurd (let g : ◌≡◌ {A = ℕ} 0 1 = cc in omega arith);
+    found = λ x f. absurd (let g : ◌≡◌ {A = ℕ} 0 1 = cc in omega arith);
+    forward = λ x f. absurd (let g : ◌≡◌ {A = ℕ} 0 1 = cc in omega arith);
     ended = λ f. e;
   }
 
-  walks_at : (z : ℤ) (next : ℕ) → rest size marks at ≡ z ∷ rest size marks next → at < next → next ≤ 262144 → Walks size marks at (At z next)
+  walks_at : (z : ℤ) (next : ℕ) → rest size marks at ≡ z ∷ rest size marks next → at < next → next ≤ 262144 → Walks size marks at (found_at z next)
   walks_at z next e h g = record {
-    found = λ y m f. cc;
-    forward = λ y m f. let q : next ≡ m = cc in (omega arith, omega arith);
+    found = λ x f. cc;
+    forward = λ x f. let q : next ≡ x.next = cc in (omega arith, omega arith);
     ended = λ f. absurd (let g : ◌≡◌ {A = ℕ} 0 1 = cc in omega arith);
   }
 
@@ -55,7 +54,7 @@ module _ (n : ℕ) (marks : List ℕ) (at : ℕ) (h : suc n ≤ limit) (g : at <
           ∙ from-none (suc n) marks (at / 4 + 1)
           ∙ sym (rest_out n marks (at + 1) (omega arith))
 
-  rest-here : (z : ℤ) → here_of (suc n) marks at ≡ Is z → rest (suc n) marks at ≡ z ∷ rest (suc n) marks (at + 1)
+  rest-here : (z : ℤ) → here_of (suc n) marks at ≡ Some z → rest (suc n) marks at ≡ z ∷ rest (suc n) marks (at + 1)
   rest-here z e = rest-inside n marks at h g ∙ left-entry (suc n) marks (at / 4) (at % 4) z e ∙ ap (λ l. z ∷ l) behind
 
   -- the place behind the first entry of the number m + 1
@@ -66,7 +65,7 @@ module _ (n : ℕ) (marks : List ℕ) (at : ℕ) (h : suc n ≤ limit) (g : at <
       ∙ ap₂ (left (suc n) marks) (let f : (m * 4 + 1) / 4 ≡ m = omega arith in f) (let f : (m * 4 + 1) % 4 ≡ 1 = omega arith in f)
       ∙ ap (λ t. keep t (drop 1 (entries (suc n) (m + 1))) ++ rest_after (suc n) marks (65535 - m) (m + 1)) e
 
-  module _ (e : here_of (suc n) marks at ≡ Nothing) where
+  module _ (e : here_of (suc n) marks at ≡ None) where
     rest_from : rest (suc n) marks at ≡ rest_after (suc n) marks (65535 - at / 4) (at / 4 + 1)
     rest_from = rest-inside n marks at h g ∙ left-nothing (suc n) marks (at / 4) (at % 4) e
 
@@ -75,7 +74,7 @@ module _ (n : ℕ) (marks : List ℕ) (at : ℕ) (h : suc n ≤ limit) (g : at <
         let k = 65535 - at / 4 in
         let j = at / 4 + 1 in
         let lt : mark_from (suc n) marks k j < j + k = omega arith in
-        subst (Walks (suc n) marks at) (sym (ap (λ t. found_if t (At (pos (m + 1)) (m * 4 + 1))) (lt-ltb m 65536 p)))
+        subst (Walks (suc n) marks at) (sym (ap (λ t. found_if t (found_at (pos (m + 1)) (m * 4 + 1))) (lt-ltb m 65536 p)))
         (walks_at (suc n) marks at (pos (m + 1)) (m * 4 + 1)
         (rest_from
         ∙ from-mark (suc n) marks k j lt
@@ -87,12 +86,12 @@ module _ (n : ℕ) (marks : List ℕ) (at : ℕ) (h : suc n ≤ limit) (g : at <
     after m f (no p) =
         let k = 65535 - at / 4 in
         let j = at / 4 + 1 in
-        subst (Walks (suc n) marks at) (sym (ap (λ t. found_if t (At (pos (m + 1)) (m * 4 + 1))) (le-ltb m 65536 (omega arith))))
+        subst (Walks (suc n) marks at) (sym (ap (λ t. found_if t (found_at (pos (m + 1)) (m * 4 + 1))) (le-ltb m 65536 (omega arith))))
         (walks-end (suc n) marks at (rest_from ∙ from_end (suc n) marks k j (omega (arith, mark-le (suc n) marks k j))))
 
-  walks-inside : (e : Entry) → here_of (suc n) marks at ≡ e → Walks (suc n) marks at (next_of (suc n) marks at)
-  walks-inside (Is z) e = subst (Walks (suc n) marks at) (next_here marks (suc n) at z (omega arith) h g e) (walks_at (suc n) marks at z (at + 1) (rest-here z e) (omega arith) (omega arith))
-  walks-inside Nothing e = subst (Walks (suc n) marks at) (next-after marks (suc n) at (omega arith) h g e) (after e _ refl (dec_lt _ 65536))
+  walks-inside : (e : Option ℤ) → here_of (suc n) marks at ≡ e → Walks (suc n) marks at (next_of (suc n) marks at)
+  walks-inside (Some z) e = subst (Walks (suc n) marks at) (next_here marks (suc n) at z (omega arith) h g e) (walks_at (suc n) marks at z (at + 1) (rest-here z e) (omega arith) (omega arith))
+  walks-inside None e = subst (Walks (suc n) marks at) (next-after marks (suc n) at _ (omega arith) h g e (ap (λ k. mark_from (suc n) marks k (at / 4 + 1)) (let k : 65535 - at / 4 ≡ 65536 - (at / 4 + 1) = omega arith in k))) (after e _ refl (dec_lt _ 65536))
 
 pub walks : (size : ℕ) (marks : List ℕ) (at : ℕ) → Walks size marks at (next_of size marks at)
 unfolding rest
@@ -106,5 +105,7 @@ walks (suc n) marks at = by (dec_le (suc n) limit) (dec_lt at 262144)
     by (yes h) (no g) = subst (Walks (suc n) marks at) (next-out marks (suc n) at (omega arith) (omega arith)) (walks-end (suc n) marks at (rest_out n marks at (omega arith)))
 
 -- what is found as the model finds it walks too
-pub walked_both : {size : ℕ} {marks : List ℕ} {at : ℕ} {f : Found} → f ≡ next_of size marks at → (f ≡ next_of size marks at) × Walks size marks at f
-walked_both {size} {marks} {at} e = (e, subst (Walks size marks at) (sym e) (walks size marks at))
+pub walks_is : {size : ℕ} {marks : List ℕ} {at : ℕ} {f : Option Factor} → f ≡ next_of size marks at → Walks size marks at f
+walks_is {size} {marks} {at} e = subst (Walks size marks at) (sym e) (walks size marks at)
+
+pub ruleset walk_steps = (walks_is, to_z-of_z, mark-le, next-zero, next-zero-end, next-large, next-out, next_here, next-after)

@@ -135,3 +135,5 @@ word-step n first left p q =
 -- a word that is not finished leaves room for one bit more
 pub word_room : (n i left : ℕ) → 0 < left → left ≤ 64 → word_from n (64 - left) i * 2 + 1 < 2 ^ 64
 word_room n i left p q = omega (arith, lt_of_lt_of_le (word_small n (64 - left) i) (pow_mono (let e : 64 - left ≤ 63 = omega arith in e)))
+
+pub ruleset word_steps = (digit-le, word_none, word_room, word-step)

@@ -1,6 +1,6 @@
 -- A listing as a bit set: bit j % 64 of word j / 64 is set exactly if j + 1 is a divisor up to the root. What `integer_factors` hands back.
 use Rattle.ratio.specs.Refusal.{no_refusal}
-use Rattle.std.specs.Prelude.{Bool, true, false, List, [], ◌∷◌, ℕ, zero, suc, ◌+◌, ◌*◌, ◌/◌, ◌%◌, ◌^◌, leb, ltb, eqb, ℤ, nat_abs, get_or, replicate, Ok, Err}
+use Rattle.std.specs.Prelude.{Bool, true, false, List, [], ◌∷◌, ℕ, zero, suc, ◌+◌, ◌*◌, ◌/◌, ◌%◌, ◌^◌, leb, ltb, eqb, ℤ, nat_abs, get_or, replicate, Err}
 use Rattle.ratio.specs.declared.Reason.{Reason}
 use Rattle.ratio.specs.declared.Reason.TheVariants.{BadInput, Budget}
 use Rattle.divisors.specs.declared.Listing.{Listing}

@@ -1,9 +1,8 @@
 -- Demand 2 for a listing: it is refused exactly where document 01 says, and an answered one holds each divisor of n, with each sign, once, and nothing else.
 use Rattle.ratio.specs.Refusal.{status_of}
-use Rattle.std.specs.Prelude.{◌≡◌, Bool, true, false, List, [], ◌∷◌, ℕ, suc, ◌+◌, ◌*◌, ◌<◌, ◌≤◌, eqb, ℤ, pos, negsuc, nat_abs, ◌*ℤ◌}
+use Rattle.std.specs.Prelude.{◌≡◌, Bool, true, false, List, [], ◌∷◌, ℕ, suc, ◌+◌, ◌*◌, ◌<◌, ◌≤◌, eqb, ℤ, pos, negsuc, nat_abs, ◌*ℤ◌, Option, Some, None}
 use Rattle.ratio.specs.Range.{Within}
-use Rattle.divisors.specs.declared.Found.{Found}
-use Rattle.divisors.specs.declared.Found.TheVariants.{At, End}
+use Rattle.divisors.specs.declared.Factor.{Factor}
 use Rattle.divisors.specs.declared.Listing.{Listing}
 use Rattle.divisors.specs.Listing.{factors_of}
 use Rattle.divisors.specs.Walk.{rest}
@@ -53,7 +52,7 @@ pub record Lists (n : ℤ) (budget : ℕ) (l : Listing) : Type 0 where
   pub refused : (status_of l.outcome ≡ 0 → ⊥) → listed l ≡ []
 
 -- the entry found is the first of what is left, and the walk goes on behind it
-pub record Walks (size : ℕ) (marks : List ℕ) (at : ℕ) (f : Found) : Type 0 where
-  pub found : (z : ℤ) (next : ℕ) → f ≡ At z next → rest size marks at ≡ z ∷ rest size marks next
-  pub forward : (z : ℤ) (next : ℕ) → f ≡ At z next → (at < next) × (next ≤ 262144)
-  pub ended : f ≡ End → rest size marks at ≡ []
+pub record Walks (size : ℕ) (marks : List ℕ) (at : ℕ) (f : Option Factor) : Type 0 where
+  pub found : (x : Factor) → f ≡ Some x → rest size marks at ≡ x.value ∷ rest size marks x.next
+  pub forward : (x : Factor) → f ≡ Some x → (at < x.next) × (x.next ≤ 262144)
+  pub ended : f ≡ None → rest size marks at ≡ []

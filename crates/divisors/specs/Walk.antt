@@ -1,10 +1,7 @@
 -- Walking a listing: which entry comes next, and what is still to come. A place is 4 j + k: entry k of the number j + 1.
-use Rattle.std.specs.Prelude.{◌≡◌, Bool, true, false, ◌&&◌, cond, List, [], ◌∷◌, ◌++◌, ℕ, zero, suc, ◌+◌, ◌-◌, ◌*◌, ◌/◌, ◌%◌, ◌^◌, ◌<◌, ◌≤◌, leb, ltb, eqb, ℤ, pos, drop}
+use Rattle.std.specs.Prelude.{◌≡◌, Bool, true, false, ◌&&◌, cond, List, [], ◌∷◌, ◌++◌, ℕ, zero, suc, ◌+◌, ◌-◌, ◌*◌, ◌/◌, ◌%◌, ◌^◌, ◌<◌, ◌≤◌, leb, ltb, eqb, ℤ, pos, drop, Option, Some, None}
 use Rattle.ratio.specs.Range.{limit}
-use Rattle.divisors.specs.declared.Entry.{Entry}
-use Rattle.divisors.specs.declared.Entry.TheVariants.{Is, Nothing}
-use Rattle.divisors.specs.declared.Found.{Found}
-use Rattle.divisors.specs.declared.Found.TheVariants.{At, End}
+use Rattle.divisors.specs.declared.Factor.{Factor}
 use Rattle.divisors.specs.Listing.{entries, keep}
 use Rattle.divisors.specs.Marks.{bit_at}
 
@@ -50,37 +47,41 @@ pub record ClearIn (word s r : ℕ) : Type 0 where
   pub inside : s + r ≤ 64
   pub unset : (b : ℕ) → b < r → eqb (word / 2 ^ (s + b) % 2) 1 ≡ false
 
-abbrev pub entry_of : List ℤ → ℕ → Entry
-entry_of [] k = Nothing
-entry_of (z ∷ l) zero = Is z
+abbrev pub entry_of : List ℤ → ℕ → Option ℤ
+entry_of [] k = None
+entry_of (z ∷ l) zero = Some z
 entry_of (z ∷ l) (suc k) = entry_of l k
 
-abbrev pub found_if : Bool → Found → Found
+-- the entry z is found, and the place behind it is next
+abbrev pub found_at : ℤ → ℕ → Option Factor
+found_at z next = Some (record { value = z; next = next })
+
+abbrev pub found_if : Bool → Option Factor → Option Factor
 found_if true f = f
-found_if false f = End
+found_if false f = None
 
 -- the first entry of the number j + 1
-abbrev pub first_of : ℕ → Found
-first_of j = found_if (ltb j 65536) (At (pos (j + 1)) (j * 4 + 1))
+abbrev pub first_of : ℕ → Option Factor
+first_of j = found_if (ltb j 65536) (found_at (pos (j + 1)) (j * 4 + 1))
 
-abbrev pub or_else : Entry → ℕ → Found → Found
-or_else (Is z) next f = At z next
-or_else Nothing next f = f
+abbrev pub or_else : Option ℤ → ℕ → Option Factor → Option Factor
+or_else (Some z) next f = found_at z next
+or_else None next f = f
 
-abbrev pub entry_if : Bool → Entry → Entry
+abbrev pub entry_if : Bool → Option ℤ → Option ℤ
 entry_if true e = e
-entry_if false e = Nothing
+entry_if false e = None
 
 -- the entry at a place, where its number is marked
-abbrev pub here_of : ℕ → List ℕ → ℕ → Entry
+abbrev pub here_of : ℕ → List ℕ → ℕ → Option ℤ
 here_of size marks at = entry_if (marked size marks (at / 4)) (entry_of (entries size (at / 4 + 1)) (at % 4))
 
-abbrev pub zero_next : ℕ → Found
-zero_next zero = At (pos 0) 1
-zero_next (suc at) = End
+abbrev pub zero_next : ℕ → Option Factor
+zero_next zero = found_at (pos 0) 1
+zero_next (suc at) = None
 
 -- the entry at a place or after it
-unfoldable pub next_of : ℕ → List ℕ → ℕ → Found
+unfoldable pub next_of : ℕ → List ℕ → ℕ → Option Factor
 next_of zero marks at = zero_next at
 next_of (suc n) marks at =
     found_if (is_place (suc n) at) (or_else (here_of (suc n) marks at) (at + 1) (first_of (mark_from (suc n) marks (65535 - at / 4) (at / 4 + 1))))

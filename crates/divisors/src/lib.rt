@@ -18,16 +18,11 @@ pub struct Listing {
     pub marks: [u64; 1024],
 }
 
+// An entry of a listing, and the place behind it.
 #[derive(Clone, Copy)]
-pub enum Found {
-    At { value: i64, next: usize },
-    End,
-}
-
-#[derive(Clone, Copy)]
-enum Entry {
-    Is(i64),
-    Nothing,
+pub struct Factor {
+    pub value: i64,
+    pub next: usize,
 }
 
 // 1 where i divides n and is at most its root.
@@ -35,43 +30,38 @@ fn mark(n: u64, i: u64) -> u64
     requires { (0 < i) × (i ≤ 65536) }
     ensures { result ≡ digit (is_small n i) }
 {
-    if i * i <= n {
-        if n % i == 0 { 1 } else { 0 }
-    } else {
-        0
-    }
+    if i * i <= n && n % i == 0 { 1 } else { 0 }
 }
 
 // The marks of the 64 numbers from `first` on, the first in the lowest bit.
+#[tactic(auto, using(crate::proofs::Words::word_steps))]
 fn mark_word(n: u64, first: u64) -> u64
     requires { (0 < first) × (first + 63 ≤ 65536) }
     ensures { result ≡ word_from n 64 first }
 {
     let mut word: u64 = 0;
-    let mut left: u64 = 64;
-    while left > 0 {
-        left -= 1;
+    for left in (0..64).rev() {
         word = word * 2 + mark(n, first + left);
     }
     word
 }
 
+#[tactic(auto, using(crate::proofs::Words::square_le, crate::proofs::Words::filled_more))]
 fn mark_all(n: u64) -> [u64; 1024]
     ensures { result ≡ marks_of n }
 {
     let mut marks = [0u64; 1024];
-    let mut w: usize = 0;
-    while w < 1024 {
+    for w in 0..1024 {
         let first = (w as u64) * 64 + 1;
         if first * first > n {
             return marks;
         }
         marks[w] = mark_word(n, first);
-        w += 1;
     }
     marks
 }
 
+#[tactic(auto, unfolding(crate::specs::Marks::refused_by))]
 fn refused(why: Reason) -> Listing
     ensures { result ≡ refused_by why }
 {
@@ -82,16 +72,13 @@ fn refused(why: Reason) -> Listing
     }
 }
 
+#[tactic(auto, using(crate::proofs::Lists::listing_steps))]
 pub fn integer_factors(n: i64, budget: u64) -> Listing
     ensures is { result ≡ listing_of n budget }
     ensures promise { Lists n budget result }
 {
-    let size = ratio::magnitude(n);
-    if size > 9223372036854775807 {
-        refused(Reason::BadInput)
-    } else if budget == 0 {
-        refused(Reason::BadInput)
-    } else if budget > 65536 {
+    let size = n.unsigned_abs();
+    if size > 9223372036854775807 || budget == 0 || budget > 65536 {
         refused(Reason::BadInput)
     } else if (budget + 1) * (budget + 1) <= size {
         refused(Reason::Budget)
@@ -112,6 +99,7 @@ fn is_marked(marks: &[u64; 1024], j: usize) -> bool
 }
 
 // From an unmarked bit of a word to the next that is set, or else to the word's end.
+#[tactic(auto, using(crate::proofs::Skip::clear_steps))]
 fn zeros(word: u64, s: usize) -> usize
     requires { (s < 64) × (eqb (word / 2 ^ s % 2) 1 ≡ false) }
     ensures { ClearIn word s result }
@@ -125,6 +113,7 @@ fn zeros(word: u64, s: usize) -> usize
 }
 
 // How far the walk may go on from an unmarked bit: an empty word is passed over whole.
+#[tactic(auto, using(crate::proofs::Skip::clear_steps))]
 fn stride(marks: &[u64; 1024], j: usize) -> usize
     requires { (j < 65536) × (bit_at marks.now j ≡ false) }
     ensures { Clear marks.now j result }
@@ -146,6 +135,7 @@ fn past_root(size: u64, j: usize) -> bool
 }
 
 // The first bit that counts from `from` on; 65,536 where there is none.
+#[tactic(auto, using(crate::proofs::Skip::mark_steps))]
 fn next_mark(size: u64, marks: &[u64; 1024], from: usize) -> usize
     requires { from ≤ 65536 }
     ensures { result ≡ mark_from size marks.now (65536 - from) from }
@@ -164,78 +154,75 @@ fn next_mark(size: u64, marks: &[u64; 1024], from: usize) -> usize
 }
 
 // Entry k of the divisor i of n.
-fn entry_at(n: u64, i: u64, k: usize) -> Entry
+fn entry_at(n: u64, i: u64, k: usize) -> Option<i64>
     requires { (0 < i) × (i ≤ 65536) × (n ≤ limit) }
     ensures { result ≡ entry_of (entries n i) k }
 {
     if k == 0 {
-        Entry::Is(i as i64)
+        Some(i as i64)
     } else if k == 1 {
-        Entry::Is(-(i as i64))
+        Some(-(i as i64))
     } else if i * i == n {
-        Entry::Nothing
+        None
     } else if k == 2 {
-        Entry::Is((n / i) as i64)
+        Some((n / i) as i64)
     } else if k == 3 {
-        Entry::Is(-((n / i) as i64))
+        Some(-((n / i) as i64))
     } else {
-        Entry::Nothing
+        None
     }
 }
 
 // The first entry of the number j + 1.
-fn first_entry(j: usize) -> Found
+fn first_entry(j: usize) -> Option<Factor>
     requires { j ≤ 65536 }
     ensures { result ≡ first_of j }
 {
     if j < 65536 {
-        Found::At {
+        Some(Factor {
             value: (j + 1) as i64,
             next: j * 4 + 1,
-        }
+        })
     } else {
-        Found::End
+        None
     }
 }
 
 // The entry at a place, where its number is marked.
-fn entry_here(size: u64, marks: &[u64; 1024], at: usize) -> Entry
+fn entry_here(size: u64, marks: &[u64; 1024], at: usize) -> Option<i64>
     requires { (size ≤ limit) × (at < 262144) }
     ensures { result ≡ here_of size marks.now at }
 {
     let j = at / 4;
-    if past_root(size, j) {
-        Entry::Nothing
-    } else if is_marked(marks, j) {
+    if !past_root(size, j) && is_marked(marks, j) {
         entry_at(size, (j as u64) + 1, at % 4)
     } else {
-        Entry::Nothing
+        None
     }
 }
 
 // The next entry of a listing at the place `at` or after it, and the place after that; the first place is 0.
-pub fn next_factor(size: u64, marks: &[u64; 1024], at: usize) -> Found
+#[tactic(auto, using(crate::proofs::Walks::walk_steps))]
+pub fn next_factor(size: u64, marks: &[u64; 1024], at: usize) -> Option<Factor>
     ensures is { result ≡ next_of size marks.now at }
     ensures promise { Walks size marks.now at result }
 {
     if size == 0 {
         if at == 0 {
-            Found::At { value: 0, next: 1 }
+            Some(Factor { value: 0, next: 1 })
         } else {
-            Found::End
+            None
         }
-    } else if size > 9223372036854775807 {
-        Found::End
-    } else if at >= 262144 {
-        Found::End
+    } else if size > 9223372036854775807 || at >= 262144 {
+        None
     } else {
         let e = entry_here(size, marks, at);
         match e {
-            Entry::Is(value) => Found::At {
+            Some(value) => Some(Factor {
                 value,
                 next: at + 1,
-            },
-            Entry::Nothing => first_entry(next_mark(size, marks, at / 4 + 1)),
+            }),
+            None => first_entry(next_mark(size, marks, at / 4 + 1)),
         }
     }
 }

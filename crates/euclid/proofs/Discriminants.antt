@@ -1,6 +1,6 @@
 -- The promise of the discriminant, said of its model: zero exactly if there is a divisor in common with the derivative, at most the price; answer and number of steps are those of the written chain.
 use Rattle.ratio.specs.Refusal.{status_of}
-use mathlib.Core.Path.{◌≡◌, refl, sym, subst}
+use mathlib.Core.Path.{◌≡◌, refl}
 use mathlib.Core.Logic.{◌↔◌}
 use mathlib.Core.List.{List, [], ◌∷◌}
 use Prim.Native.Nat.{ℕ, suc, ◌≤◌}
@@ -30,7 +30,6 @@ use Rattle.remainders.proofs.ChainWritten.{value_of, discriminant-tells}
 use Rattle.remainders.proofs.MeaningDiscriminant.{discriminant-vanishes, discriminant-lowest}
 use Rattle.remainders.proofs.MeaningResultant as R
 use Rattle.remainders.proofs.PriceResultant.{discriminant-price}
-use Rattle.euclid.specs.declared.Whole.{Whole}
 use Rattle.euclid.specs.Answer.{no_whole, whole_of, discriminant_for}
 use Rattle.euclid.specs.Promise.{CommonFactor, DiscriminantPromise, whole-only, Written-down, discriminant_run}
 use Rattle.euclid.proofs.Doors.{never_done, entered-keeps, zero-nil, degree-length, in-degrees, fractions, written-down}
@@ -99,6 +98,3 @@ module _ (f : Poly) where
 
 pub discriminant-promise : (f : Poly) → DiscriminantPromise f (discriminant_for f)
 discriminant-promise f = entered-keeps (λ why. no_whole why 0) (DiscriminantPromise f) (door_of f) _ (λ e. discriminant-open f (opened f e)) (refused-discriminant f)
-
-pub discriminant-both : (f : Poly) (r : Whole) → r ≡ discriminant_for f → (r ≡ discriminant_for f) × DiscriminantPromise f r
-discriminant-both f r e = (e, subst (DiscriminantPromise f) (sym e) (discriminant-promise f))

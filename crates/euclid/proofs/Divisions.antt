@@ -1,6 +1,6 @@
 -- The promise of division, said of its model: the textbook's quotient and rest, canonical, exactly the steps of document 01; answer and number of steps are those of the written chain.
 use Rattle.ratio.specs.Refusal.{status_of}
-use mathlib.Core.Path.{◌≡◌, refl, sym, ap, subst}
+use mathlib.Core.Path.{◌≡◌, refl, ap, subst}
 use mathlib.Core.List.{List, [], ◌∷◌, ◌++◌, map-append}
 use Prim.Native.Nat.{ℕ, suc, ◌+◌, ◌-◌, ◌*◌, ◌≤◌}
 use native.Mathlib.Omega.{arith}
@@ -17,7 +17,6 @@ use Rattle.poly.specs.declared.Gate.TheVariants.{Open}
 use Rattle.poly.specs.Door.{door_of, both}
 use Rattle.poly.specs.Promise.{reading}
 use Rattle.poly.proofs.Canonical.{Opened, open-poly, open-nil}
-use Rattle.remainders.specs.declared.Division.{Division}
 use Rattle.remainders.specs.Answer.{no_division, division_of, divided_of}
 use Rattle.remainders.specs.Divide.{Split, divided}
 use Rattle.remainders.specs.Price.{division_price}
@@ -128,6 +127,3 @@ division-promise a b =
     entered-keeps (λ why. no_division why 0) (DivisionPromise a b) (both (door_of a) (door_of b)) _
     (λ e. let (oa, ob) = both-opened a b e in division-open a b oa ob (terms_of b) refl)
     (refused-division a b)
-
-pub division-both : (a b : Poly) (r : Division) → r ≡ div_rem_of a b → (r ≡ div_rem_of a b) × DivisionPromise a b r
-division-both a b r e = (e, subst (DivisionPromise a b) (sym e) (division-promise a b))

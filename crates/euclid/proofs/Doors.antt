@@ -1,6 +1,6 @@
 -- What the promises of module 4 share: the door before the work, degree and length of what came through it, and the written chain behind the answer and the number of steps.
 use Rattle.ratio.specs.Refusal.{status_of, no_refusal}
-use Rattle.std.specs.Prelude.{Ok, Err}
+use Rattle.std.specs.Prelude.{Err}
 use mathlib.Core.Path.{◌≡◌, refl, sym, ap, ap₂, subst, ◌∙◌}
 use mathlib.Core.List.{List, [], ◌∷◌, map}
 use Prim.Native.Nat.{ℕ, suc, ◌+◌, ◌-◌, ◌≤◌}

@@ -8,7 +8,6 @@ use lib.ListN.{length}
 use Rattle.algebra.specs.Textbook.{HasDegree, IsZero, IsGcd}
 use Rattle.ratio.specs.declared.Ratio.{Ratio}
 use Rattle.ratio.specs.declared.Reason.{Reason}
-use Rattle.terms.specs.declared.Answer.{Answer}
 use Rattle.terms.specs.declared.Poly.{Poly}
 use Rattle.terms.specs.Answer.{refused_with, answer_of}
 use Rattle.terms.specs.Machine.{Ran, fine, plain}
@@ -114,6 +113,3 @@ gcd-promise a b =
     entered-keeps (λ why. refused_with why 0) (GcdPromise a b) (both (door_of a) (door_of b)) _
     (λ e. let (oa, ob) = both-opened a b e in gcd-open a b oa ob)
     (refused-gcd a b)
-
-pub gcd-both : (a b : Poly) (r : Answer) → r ≡ gcd_for a b → (r ≡ gcd_for a b) × GcdPromise a b r
-gcd-both a b r e = (e, subst (GcdPromise a b) (sym e) (gcd-promise a b))

@@ -7,3 +7,4 @@ pub mod Discriminants
 pub mod Quotes
 pub mod Wholes
 pub mod QuoteCases
+pub mod Auto

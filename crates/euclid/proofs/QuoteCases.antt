@@ -1,16 +1,15 @@
 -- The prices and the quotes by the cases in which the code goes, and how large a price gets for degrees to 31.
+use Rattle.std.specs.Prelude.{Ok}
 use mathlib.Core.Path.{◌≡◌, refl, sym, ap}
-use mathlib.Core.Bool.{Bool, true, false, ◌&&◌}
+use mathlib.Core.Bool.{Bool, true, false}
 use Prim.Native.Nat.{ℕ, zero, suc, ◌+◌, ◌-◌, ◌*◌, ◌≤◌, ◌<◌}
 use native.Mathlib.Nat.{mul-le-mul}
 use native.Mathlib.Numerals.{unary_clauses}
 use native.Mathlib.Omega.{arith}
-use borrow.Author.Tests.{lt-ltb, le-ltb, le-leb, lt-leb}
-use lib.Dec.{leb, ltb}
-use Rattle.ratio.specs.declared.Reason.TheVariants.{TooLong}
+use borrow.Author.Tests.{lt-ltb, le-ltb}
+use lib.Dec.{ltb}
 use Rattle.remainders.specs.Price.{division_price, ordered_price, resultant_if, resultant_price, discriminant_price}
-use Rattle.euclid.specs.declared.Price.TheVariants.{Steps, Refused}
-use Rattle.euclid.specs.Quote.{quote_if, quote_two, discriminant_quote}
+use Rattle.euclid.specs.Quote.{discriminant_quote}
 
 pub few-products : (n m : ℕ) → n ≤ 31 → m ≤ 31 → n * m ≤ 961
 few-products n m h g = mul-le-mul h g
@@ -60,27 +59,6 @@ discriminant-positive (suc n) e = simp unary_clauses
 
 -- ---- quotes
 
-over : (t : Bool) (k : ℕ) → Refused TooLong ≡ quote_if (t && false) k
-over true k = refl
-over false k = refl
-
-module _ (n m k : ℕ) where
-  pub first-over : 31 < n → Refused TooLong ≡ quote_two n m k
-  first-over h = rw (lt-leb n 31 h)
-
-  pub second-over : 31 < m → Refused TooLong ≡ quote_two n m k
-  second-over h = rw (lt-leb m 31 h) (over (leb n 31) k)
-
-  pub both-within : n ≤ 31 → m ≤ 31 → Steps k ≡ quote_two n m k
-  both-within h g = rw (le-leb n 31 h, le-leb m 31 g)
-
-module _ (n k : ℕ) where
-  pub one-over : 31 < n → Refused TooLong ≡ quote_if (leb n 31) k
-  one-over h = rw (lt-leb n 31 h)
-
-  pub one-within : n ≤ 31 → Steps k ≡ quote_if (leb n 31) k
-  one-within h = rw (le-leb n 31 h)
-
-pub constant-quote : (n : ℕ) → n ≡ 0 → Steps 0 ≡ discriminant_quote n
+pub constant-quote : (n : ℕ) → n ≡ 0 → Ok 0 ≡ discriminant_quote n
 constant-quote zero e = refl
 constant-quote (suc n) e = absurd (omega arith)

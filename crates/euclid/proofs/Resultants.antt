@@ -167,6 +167,3 @@ resultant-promise a b =
     entered-keeps (λ why. no_whole why 0) (ResultantPromise a b) (both (door_of a) (door_of b)) _
     (λ e. let (oa, ob) = both-opened a b e in resultant-open a b oa ob)
     (refused-resultant a b)
-
-pub resultant-both : (a b : Poly) (r : Whole) → r ≡ resultant_for a b → (r ≡ resultant_for a b) × ResultantPromise a b r
-resultant-both a b r e = (e, subst (ResultantPromise a b) (sym e) (resultant-promise a b))

@@ -1,6 +1,6 @@
 -- The promise of the square-free part, said of its model: it divides and keeps the roots, is canonical, takes at most the price; answer and number of steps are those of the written chain.
 use Rattle.ratio.specs.Refusal.{status_of}
-use mathlib.Core.Path.{◌≡◌, refl, sym, subst}
+use mathlib.Core.Path.{◌≡◌, refl, subst}
 use mathlib.Core.List.{List, [], ◌∷◌}
 use Prim.Native.Nat.{ℕ, suc, ◌≤◌}
 use native.Mathlib.Omega.{arith}
@@ -9,7 +9,6 @@ use Rattle.algebra.specs.Textbook.{HasDegree, IsZero}
 use Rattle.ratio.specs.Range.{limit}
 use Rattle.ratio.specs.declared.Ratio.{Ratio}
 use Rattle.ratio.specs.declared.Reason.{Reason}
-use Rattle.terms.specs.declared.Answer.{Answer}
 use Rattle.terms.specs.declared.Poly.{Poly}
 use Rattle.terms.specs.Answer.{refused_with, answer_of}
 use Rattle.terms.specs.Machine.{Ran, fine, plain}
@@ -86,6 +85,3 @@ module _ (f : Poly) where
 
 pub square-free-promise : (f : Poly) → SquareFreePromise f (square_free_for f)
 square-free-promise f = entered-keeps (λ why. refused_with why 0) (SquareFreePromise f) (door_of f) _ (λ e. part-open f (opened f e)) (refused-part f)
-
-pub square-free-both : (f : Poly) (r : Answer) → r ≡ square_free_for f → (r ≡ square_free_for f) × SquareFreePromise f r
-square-free-both f r e = (e, subst (SquareFreePromise f) (sym e) (square-free-promise f))

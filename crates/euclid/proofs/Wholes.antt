@@ -1,5 +1,4 @@
 -- A fraction that was worked out is handed back as a whole number, or refused with 2.
-use Rattle.std.specs.Prelude.{Ok}
 use mathlib.Core.Path.{◌≡◌, sym, ap, ◌∙◌}
 use mathlib.Core.Bool.{Bool, true, false}
 use Prim.{⊥}

@@ -1,5 +1,5 @@
 -- Demands 2 and 3 for module 4: what an answer means in textbook algebra, what it costs at most, and that answer and number of steps are those of the written chain.
-use Rattle.std.specs.Prelude.{◌≡◌, List, [], ◌∷◌, ◌++◌, map, ℕ, suc, ◌+◌, ◌-◌, ◌*◌, ◌≤◌, ◌<◌, ℤ, pos, nat_abs, length, get_or}
+use Rattle.std.specs.Prelude.{◌≡◌, List, [], ◌∷◌, ◌++◌, map, ℕ, suc, ◌+◌, ◌-◌, ◌*◌, ◌≤◌, ◌<◌, ℤ, pos, nat_abs, length, get_or, Result, Ok, Err}
 use Rattle.algebra.specs.Rational.{Rat}
 use Rattle.algebra.specs.Polynomial.{derivative}
 use Rattle.algebra.specs.Textbook.{HasDegree, IsZero, Divides, IsDivision, IsGcd, IsRoot}
@@ -20,8 +20,6 @@ use Rattle.remainders.specs.Resultant.{resultant_of, discriminant_of}
 use Rattle.remainders.specs.Chain.{Wire, Written, first, second, writer, wires, chain_of, Finished, Stopped}
 use Rattle.remainders.specs.Price.{division_price, gcd_price, square_free_price, resultant_price, discriminant_price}
 use Rattle.euclid.specs.declared.Whole.{Whole}
-use Rattle.euclid.specs.declared.Price.{Price}
-use Rattle.euclid.specs.declared.Price.TheVariants.{Steps, Refused}
 
 -- both inputs came through the door
 pub record Entered (a b : Poly) : Type 0 where
@@ -138,11 +136,11 @@ pub record DiscriminantPromise (f : Poly) (r : Whole) : Type 0 where
 -- ---- prices quoted from the degrees alone
 
 -- steps a b is what the work on a and b took: never more than was quoted; and what came through the door has a quote
-pub record Quotes (n m : ℕ) (steps : Poly → Poly → ℕ) (r : Price) : Type 0 where
-  pub bounds : (a b : Poly) → HasDegree (reading a) n → HasDegree (reading b) m → (k : ℕ) → r ≡ Steps k → steps a b ≤ k
-  pub quoted : (a b : Poly) → Entered a b → HasDegree (reading a) n → HasDegree (reading b) m → (why : Reason) → r ≡ Refused why → ⊥
+pub record Quotes (n m : ℕ) (steps : Poly → Poly → ℕ) (r : Result ℕ Reason) : Type 0 where
+  pub bounds : (a b : Poly) → HasDegree (reading a) n → HasDegree (reading b) m → (k : ℕ) → r ≡ Ok k → steps a b ≤ k
+  pub quoted : (a b : Poly) → Entered a b → HasDegree (reading a) n → HasDegree (reading b) m → (why : Reason) → r ≡ Err why → ⊥
 
 -- the same of work on one polynomial
-pub record QuotesOne (n : ℕ) (steps : Poly → ℕ) (r : Price) : Type 0 where
-  pub bounds : (f : Poly) → HasDegree (reading f) n → (k : ℕ) → r ≡ Steps k → steps f ≤ k
-  pub quoted : (f : Poly) → door_of f ≡ Open → HasDegree (reading f) n → (why : Reason) → r ≡ Refused why → ⊥
+pub record QuotesOne (n : ℕ) (steps : Poly → ℕ) (r : Result ℕ Reason) : Type 0 where
+  pub bounds : (f : Poly) → HasDegree (reading f) n → (k : ℕ) → r ≡ Ok k → steps f ≤ k
+  pub quoted : (f : Poly) → door_of f ≡ Open → HasDegree (reading f) n → (why : Reason) → r ≡ Err why → ⊥

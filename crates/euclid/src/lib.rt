@@ -21,13 +21,6 @@ pub struct Whole {
     pub steps: u64,
 }
 
-// A price quoted before the work.
-#[derive(Clone, Copy)]
-pub enum Price {
-    Steps(u64),
-    Refused(Reason),
-}
-
 // The quotient and the rest of a by b.
 pub fn div_rem(a: Poly, b: Poly) -> Division
     ensures is { result ≡ div_rem_of a b }
@@ -127,6 +120,7 @@ pub fn discriminant(f: Poly) -> Whole
 
 // ---- prices, from the degrees alone
 
+#[tactic(auto, using(crate::proofs::Auto::division))]
 fn division_steps(n: u64, m: u64) -> u64
     requires { (n ≤ 31) × (m ≤ 31) }
     ensures { result ≡ division_price n m }
@@ -134,6 +128,7 @@ fn division_steps(n: u64, m: u64) -> u64
     if n < m { 0 } else { (n - m + 1) * (2 * m + 3) }
 }
 
+#[tactic(auto, using(crate::proofs::Auto::ordered))]
 fn ordered_steps(n: u64, m: u64) -> u64
     requires { (n ≤ 31) × (m ≤ 31) × (1 ≤ n) }
     ensures { result ≡ ordered_price n m }
@@ -141,6 +136,7 @@ fn ordered_steps(n: u64, m: u64) -> u64
     2 * n * m + 4 * n + 6 * m - 3
 }
 
+#[tactic(auto, using(crate::proofs::Auto::resultant))]
 fn resultant_steps(n: u64, m: u64) -> u64
     requires { (n ≤ 31) × (m ≤ 31) }
     ensures { result ≡ resultant_price n m }
@@ -157,69 +153,68 @@ fn resultant_steps(n: u64, m: u64) -> u64
 }
 
 // What a division of degree n by degree m takes: exactly this when answered.
-pub fn division_price(n: u64, m: u64) -> Price
+#[tactic(auto, using(crate::proofs::Auto::division_quoted))]
+pub fn division_price(n: u64, m: u64) -> Result<u64, Reason>
     ensures is { result ≡ division_quote n m }
     ensures promise { Quotes n m (λ a b. (div_rem_of a b).steps) result }
 {
-    if n > 31 {
-        Price::Refused(Reason::TooLong)
-    } else if m > 31 {
-        Price::Refused(Reason::TooLong)
+    if n > 31 || m > 31 {
+        Err(Reason::TooLong)
     } else {
-        Price::Steps(division_steps(n, m))
+        Ok(division_steps(n, m))
     }
 }
 
 // The most that a gcd of degrees n and m takes.
-pub fn gcd_price(n: u64, m: u64) -> Price
+#[tactic(auto, using(crate::proofs::Auto::gcd_quoted))]
+pub fn gcd_price(n: u64, m: u64) -> Result<u64, Reason>
     ensures is { result ≡ gcd_quote n m }
     ensures promise { Quotes n m (λ a b. (gcd_for a b).steps) result }
 {
-    if n > 31 {
-        Price::Refused(Reason::TooLong)
-    } else if m > 31 {
-        Price::Refused(Reason::TooLong)
+    if n > 31 || m > 31 {
+        Err(Reason::TooLong)
     } else {
-        Price::Steps(2 * n * m + 3 * n + 3 * m + 4)
+        Ok(2 * n * m + 3 * n + 3 * m + 4)
     }
 }
 
 // The most that a square-free part of degree n takes.
-pub fn square_free_price(n: u64) -> Price
+#[tactic(auto, using(crate::proofs::Auto::square_free_quoted))]
+pub fn square_free_price(n: u64) -> Result<u64, Reason>
     ensures is { result ≡ square_free_quote n }
     ensures promise { QuotesOne n (λ f. (square_free_for f).steps) result }
 {
     if n > 31 {
-        Price::Refused(Reason::TooLong)
+        Err(Reason::TooLong)
     } else {
-        Price::Steps(3 * n * n + 9 * n + 4)
+        Ok(3 * n * n + 9 * n + 4)
     }
 }
 
 // The most that a resultant of degrees n and m takes.
-pub fn resultant_price(n: u64, m: u64) -> Price
+#[tactic(auto, using(crate::proofs::Auto::resultant_quoted))]
+pub fn resultant_price(n: u64, m: u64) -> Result<u64, Reason>
     ensures is { result ≡ resultant_quote n m }
     ensures promise { Quotes n m (λ a b. (resultant_for a b).steps) result }
 {
-    if n > 31 {
-        Price::Refused(Reason::TooLong)
-    } else if m > 31 {
-        Price::Refused(Reason::TooLong)
+    if n > 31 || m > 31 {
+        Err(Reason::TooLong)
     } else {
-        Price::Steps(resultant_steps(n, m))
+        Ok(resultant_steps(n, m))
     }
 }
 
 // The most that a discriminant of degree n takes.
-pub fn discriminant_price(n: u64) -> Price
+#[tactic(auto, using(crate::proofs::Auto::discriminant_quoted))]
+pub fn discriminant_price(n: u64) -> Result<u64, Reason>
     ensures is { result ≡ discriminant_quote n }
     ensures promise { QuotesOne n (λ f. (discriminant_for f).steps) result }
 {
     if n > 31 {
-        Price::Refused(Reason::TooLong)
+        Err(Reason::TooLong)
     } else if n == 0 {
-        Price::Steps(0)
+        Ok(0)
     } else {
-        Price::Steps(n + resultant_steps(n, n - 1) + 2)
+        Ok(n + resultant_steps(n, n - 1) + 2)
     }
 }

@@ -9,7 +9,6 @@ use Rattle.terms.specs.Machine.{whole_r}
 use Rattle.terms.specs.Answer.{done_with}
 use Rattle.euclid.specs.Answer.{div_rem_of, gcd_for, resultant_for, discriminant_for, whole_if}
 use Rattle.euclid.specs.Quote.{gcd_quote, resultant_quote}
-use Rattle.euclid.specs.declared.Price.TheVariants.{Steps}
 use Rattle.euclid.specs.declared.Whole.{Whole}
 use Rattle.terms.specs.Machine.{fine}
 use Rattle.search.specs.declared.Roots.{Roots}
@@ -67,12 +66,12 @@ millionth = of_bits binary64 0x3eb0_c6f7_a0b5_ed8d
 pub record Figures : Type 0 where
   -- the gcd of x^2 - 1 and x^2 - 3x + 2 is x - 1 and takes 7 + 10 + 2 = 19 steps, quote 24
   pub gcd-steps : gcd_for (square (negsuc 0) (pos 0) (pos 1)) (square (pos 2) (negsuc 2) (pos 1)) ≡ done_with (linear (negsuc 0) (pos 1)) 19
-  pub gcd-quote : gcd_quote 2 2 ≡ Steps 24
+  pub gcd-quote : gcd_quote 2 2 ≡ Ok 24
   -- gcd(x^2 + 1, x) = 1 at 17 steps, quote 17; their resultant is 1 at 15, quote 15
   pub gcd-one : gcd_for (square (pos 1) (pos 0) (pos 1)) (linear (pos 0) (pos 1)) ≡ done_with (constant (pos 1)) 17
-  pub gcd-one-quote : gcd_quote 2 1 ≡ Steps 17
+  pub gcd-one-quote : gcd_quote 2 1 ≡ Ok 17
   pub resultant-one : resultant_for (square (pos 1) (pos 0) (pos 1)) (linear (pos 0) (pos 1)) ≡ number (pos 1) 15
-  pub resultant-one-quote : resultant_quote 2 1 ≡ Steps 15
+  pub resultant-one-quote : resultant_quote 2 1 ≡ Ok 15
   -- the discriminant of x^2 - 3x + 2 is 1; of 7 it is 1
   pub discriminant-square : discriminant_for (square (pos 2) (negsuc 2) (pos 1)) ≡ number (pos 1) 19
   pub discriminant-constant : discriminant_for (constant (pos 7)) ≡ number (pos 1) 0

@@ -1,7 +1,6 @@
 // Document 01's figures that are run: each line says what was asked and what came of it. Those marked P are proved, in specs/Figures.antt.
 #![tactic(auto)]
 
-use divisors::Found;
 use ratio::{Ratio, Reason};
 use std::io;
 
@@ -15,16 +14,10 @@ fn status(o: Result<(), Reason>) -> u64 {
 // The entries of a listing, in order.
 fn entries(rt: &impl Print, size: u64, marks: &[u64; 1024]) -> io::Result<()> {
     let mut at: usize = 0;
-    while at < 262144 {
-        match divisors::next_factor(size, marks, at) {
-            Found::At { value, next } => {
-                print!(rt; " {value}")?;
-                at = next;
-            }
-            Found::End => {
-                at = 262144;
-            }
-        }
+    while let Some(d) = divisors::next_factor(size, marks, at) {
+        let value = d.value;
+        print!(rt; " {value}")?;
+        at = d.next;
     }
     Ok(())
 }

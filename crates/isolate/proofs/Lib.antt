@@ -4,3 +4,4 @@ pub mod Walks
 pub mod Ways
 pub mod Promises
 pub mod Prices
+pub mod Auto

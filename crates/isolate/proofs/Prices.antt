@@ -5,6 +5,7 @@ use mathlib.Core.List.{List, [], ◌∷◌}
 use Prim.Native.Nat.{ℕ, ◌+◌, ◌*◌, ◌≤◌, ◌<◌}
 use native.Mathlib.Omega.{arith}
 use borrow.Author.Tests.{le-leb, lt-leb}
+use Rattle.std.specs.Prelude.{Result, Ok, Err}
 use lib.Dec.{leb}
 use lib.Ieee.{Float}
 use lib.ListN.{length, length-map}
@@ -34,8 +35,7 @@ use Rattle.bisect.specs.Price.{after, evaluations_for, most_calls}
 use Rattle.bisect.proofs.Prices.{Fits, price-bounded, bisect-fits}
 use Rattle.refine.specs.Price.{most_of_root}
 use Rattle.refine.proofs.Prices.{root-most}
-use Rattle.isolate.specs.declared.Quote.{Quote}
-use Rattle.isolate.specs.declared.Quote.TheVariants.{Most, Refused}
+use Rattle.isolate.specs.declared.Most.{Most}
 use Rattle.isolate.specs.Isolate.{limits_of}
 use Rattle.isolate.specs.Price.{roots_work, calls_from, evaluations_from, calls_in, evaluations_in, evaluations_price, quote_if, isolation_quote, QuotesIsolation}
 
@@ -95,11 +95,15 @@ module _ (p : Poly) (lo hi tol : Float) (n : ℕ) (d : HasDegree (reading p) n) 
 
 -- ---- the quote
 
-quote-is : (t : Bool) (x y c e : ℕ) → quote_if t x y ≡ Most c e → (x ≡ c) × (y ≡ e)
-quote-is true x y c e h = (cc, cc)
+abbrev most_in : Result Most Reason → Most
+most_in (Ok m) = m
+most_in (Err why) = record { calls = 0; evaluations = 0 }
+
+quote-is : (t : Bool) (x y c e : ℕ) → quote_if t x y ≡ Ok (record { calls = c; evaluations = e }) → (x ≡ c) × (y ≡ e)
+quote-is true x y c e h = (ap (λ q. (most_in q).calls) h, ap (λ q. (most_in q).evaluations) h)
 quote-is false x y c e h = let z : ◌≡◌ {A = ℕ} 0 1 = cc in absurd (omega arith)
 
-quote-given : (t : Bool) (x y : ℕ) (why : Reason) → t ≡ true → quote_if t x y ≡ Refused why → ⊥
+quote-given : (t : Bool) (x y : ℕ) (why : Reason) → t ≡ true → quote_if t x y ≡ Err why → ⊥
 quote-given true x y why e h = let z : ◌≡◌ {A = ℕ} 0 1 = cc in omega arith
 quote-given false x y why e h = let z : ◌≡◌ {A = ℕ} 0 1 = cc in omega arith
 
@@ -111,15 +115,15 @@ quotes n = record {
   quoted = λ p o d why h. quote-given (leb n 31) most_calls (evaluations_price n) why (le-leb n 31 (degree-few p n o d)) h;
 }
 
-pub quote-both : (n : ℕ) (q : Quote) → q ≡ isolation_quote n → (q ≡ isolation_quote n) × QuotesIsolation n q
+pub quote-both : (n : ℕ) (q : Result Most Reason) → q ≡ isolation_quote n → (q ≡ isolation_quote n) × QuotesIsolation n q
 quote-both n q e = (e, subst (QuotesIsolation n) (sym e) (quotes n))
 
 module _ (n : ℕ) where
-  pub quote-long : 31 < n → Refused TooLong ≡ isolation_quote n
+  pub quote-long : 31 < n → Err TooLong ≡ isolation_quote n
   quote-long h = ap (λ t. quote_if t most_calls (evaluations_price n)) (sym (lt-leb n 31 h))
 
   -- as the code works it out
-  pub quote-most : n ≤ 31 → Most most_calls (3187 * n + 19237) ≡ isolation_quote n
+  pub quote-most : n ≤ 31 → Ok (record { calls = most_calls; evaluations = 3187 * n + 19237 }) ≡ isolation_quote n
   quote-most h =
       let e : 3187 * n + 19237 ≡ evaluations_price n = omega arith in
-      ap (λ k. Most most_calls k) e ∙ ap (λ t. quote_if t most_calls (evaluations_price n)) (sym (le-leb n 31 h))
+      ap {B = Result Most Reason} (λ k. Ok (record { calls = most_calls; evaluations = k })) e ∙ ap (λ t. quote_if t most_calls (evaluations_price n)) (sym (le-leb n 31 h))

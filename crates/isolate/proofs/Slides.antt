@@ -1,4 +1,5 @@
 -- Insertion by a walk that moves up what stands behind the place.
+use Rattle.std.specs.Prelude.{Option, Some, None}
 use mathlib.Core.Path.{◌≡◌, refl, sym, ap, ◌∙◌}
 use mathlib.Core.Bool.{Bool, true, false, cond}
 use mathlib.Core.List.{List, [], ◌∷◌, ◌++◌, append_assoc}
@@ -6,8 +7,6 @@ use Prim.Native.Nat.{ℕ, suc, ◌+◌, ◌≤◌}
 use native.Mathlib.Omega.{arith}
 use lib.Ieee.{Float, lt}
 use lib.ListN.{length, drop, length-append}
-use Rattle.refine.specs.declared.Root.{Root}
-use Rattle.refine.specs.declared.Root.TheVariants.{At, Nothing}
 use Rattle.isolate.specs.declared.Isolation.{Isolation}
 use Rattle.isolate.specs.declared.Slide.{Slide}
 use Rattle.isolate.specs.Answer.{roots_in, holding}
@@ -42,9 +41,9 @@ unfolding inserted
 inserted-length x [] = refl
 inserted-length x (y ∷ l) = one-longer (lt x y) x y l (inserted x l) (inserted-length x l)
 
-pub placed-length : (r : Root) (l : List Float) → length (placed r l) ≤ length l + 1
-placed-length (At x) l = omega (arith, inserted-length x l)
-placed-length Nothing l = omega arith
+pub placed-length : (r : Option Float) (l : List Float) → length (placed r l) ≤ length l + 1
+placed-length (Some x) l = omega (arith, inserted-length x l)
+placed-length None l = omega arith
 
 -- ---- the loop: what is put down and what is left of the walk give the whole
 

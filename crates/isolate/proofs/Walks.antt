@@ -1,4 +1,5 @@
 -- The loops over brackets and over roots: what is left of the walk, onto what is found, gives the whole.
+use Rattle.std.specs.Prelude.{Option}
 use mathlib.Core.Path.{◌≡◌, refl, sym, ap, ◌∙◌}
 use mathlib.Core.Bool.{Bool, true, false, cond}
 use mathlib.Core.List.{List, [], ◌∷◌, ◌++◌}
@@ -7,7 +8,6 @@ use native.Mathlib.Omega.{arith}
 use lib.Ieee.{Float, binary64, sub, lt}
 use lib.ListN.{length, drop, get_or, length-append}
 use Rattle.bisect.specs.declared.Bracket.{Bracket}
-use Rattle.refine.specs.declared.Root.{Root}
 use Rattle.refine.specs.Refine.{size_of}
 use Rattle.refine.specs.Root.{root_of}
 use Rattle.isolate.specs.declared.Isolation.{Isolation}
@@ -25,13 +25,8 @@ pub record Gathering (p : List Float) (tol : Float) (l : List Bracket) (i : ℕ)
   pub few : length (roots_in out) ≤ i
   pub whole : roots_onto p tol (drop i l) (roots_in out) ≡ roots_onto p tol l []
 
-pub gathering-none : (p : List Float) (tol : Float) (l : List Bracket) (out : Isolation) → out ≡ holding [] → Gathering p tol l 0 out
-gathering-none p tol l out e =
-    let r : roots_in out ≡ [] = roots-of out [] e in
-    record { is = kept_of out [] e; few = omega (arith, ap length r); whole = ap (λ (t : List Float). roots_onto p tol l t) r }
-
 module _ (p : List Float) (tol : Float) (l : List Bracket) (i : ℕ) (out : Isolation) (g : Gathering p tol l i out) where
-  pub gathering-more : (x : Bracket) → drop i l ≡ x ∷ drop (i + 1) l → (r : Root) → r ≡ root_of p x tol → (next : Isolation) → next ≡ holding (placed r (roots_in out)) → Gathering p tol l (i + 1) next
+  pub gathering-more : (x : Bracket) → drop i l ≡ x ∷ drop (i + 1) l → (r : Option Float) → r ≡ root_of p x tol → (next : Isolation) → next ≡ holding (placed r (roots_in out)) → Gathering p tol l (i + 1) next
   unfolding roots_onto
   gathering-more x d r e next n =
       let q : roots_in next ≡ placed r (roots_in out) = roots-of next (placed r (roots_in out)) n in
@@ -39,7 +34,7 @@ module _ (p : List Float) (tol : Float) (l : List Bracket) (i : ℕ) (out : Isol
         is = kept_of next (placed r (roots_in out)) n;
         few = omega (arith, ap length q, placed-length r (roots_in out), g.few);
         whole =
-            ap (λ (t : List Float). roots_onto p tol (drop (i + 1) l) t) (q ∙ ap (λ (r : Root). placed r (roots_in out)) e)
+            ap (λ (t : List Float). roots_onto p tol (drop (i + 1) l) t) (q ∙ ap (λ (r : Option Float). placed r (roots_in out)) e)
             ∙ ap (λ (t : List Bracket). roots_onto p tol t (roots_in out)) (sym d)
             ∙ g.whole;
       }
@@ -90,11 +85,6 @@ pub record Keeping (tol : Float) (l : List Float) (i : ℕ) (out : Isolation) : 
   pub is : out ≡ holding (roots_in out)
   pub few : length (roots_in out) ≤ i
   pub whole : apart_onto tol (drop i l) (roots_in out) ≡ apart_onto tol l []
-
-pub keeping_none : (tol : Float) (l : List Float) (out : Isolation) → out ≡ holding [] → Keeping tol l 0 out
-keeping_none tol l out e =
-    let r : roots_in out ≡ [] = roots-of out [] e in
-    record { is = kept_of out [] e; few = omega (arith, ap length r); whole = ap (λ (t : List Float). apart_onto tol l t) r }
 
 module _ (tol : Float) (l : List Float) (i : ℕ) (out : Isolation) (g : Keeping tol l i out) where
   pub keeping-more : (x : Float) → drop i l ≡ x ∷ drop (i + 1) l → (next : Isolation) → next ≡ holding (kept_list tol x (roots_in out)) → Keeping tol l (i + 1) next

@@ -1,26 +1,21 @@
--- The limits and the isolation: each way it can go.
+-- The isolation: each way it can go.
 use Rattle.ratio.specs.Refusal.{no_refusal}
-use Rattle.std.specs.Prelude.{Ok, Err}
-use mathlib.Core.Path.{◌≡◌, refl, sym, ap₂}
-use mathlib.Core.Bool.{Bool, true, false, ◌&&◌}
+use Rattle.std.specs.Prelude.{Err}
+use mathlib.Core.Path.{◌≡◌}
 use mathlib.Core.List.{List, []}
-use lib.Ieee.{Float, binary64, of_bits, lt}
-use lib.Ieee.Scale.{finite}
+use lib.Ieee.{Float}
 use Rattle.ratio.specs.declared.Ratio.{Ratio}
 use Rattle.ratio.specs.declared.Reason.{Reason}
 use Rattle.terms.specs.declared.Answer.{Answer}
 use Rattle.terms.specs.Machine.{plain}
 use Rattle.terms.specs.Poly.{terms_of}
 use Rattle.terms.specs.Answer.{answer_of}
-use Rattle.poly.specs.declared.Gate.TheVariants.{Bad}
-use Rattle.poly.specs.Door.{open_if}
 use Rattle.remainders.specs.Gcd.{square_free}
 use Rattle.yun.proofs.CodeGot.{list-got, list-none}
 use Rattle.chain.specs.declared.Chain.{Chain}
 use Rattle.chain.specs.Answer.{entries_of, chain_of}
 use Rattle.chain.specs.Sequence.{sequence_of}
 use Rattle.chain.proofs.CodeChain.{chain-got, chain-none}
-use Rattle.sturm.specs.Count.{inside, ends_of}
 use Rattle.sturm.specs.Value.{floats_of}
 use Rattle.sturm.specs.Along.{rows_of}
 use Rattle.bisect.specs.declared.Brackets.{Brackets}
@@ -30,20 +25,7 @@ use Rattle.bisect.proofs.Hold.{brackets-got, brackets-none}
 use Rattle.isolate.specs.Answer.{holding, refused_for, isolation_of}
 use Rattle.isolate.specs.Sorted.{roots_onto}
 use Rattle.isolate.specs.Apart.{apart_onto}
-use Rattle.isolate.specs.Isolate.{limits_of, isolate_from}
-
-module _ (lo hi tol : Float) where
-  limits-by : (f a : Bool) → finite tol ≡ f → lt (of_bits binary64 0) tol ≡ a → open_if (f && a && inside lo && inside hi) ≡ limits_of lo hi tol
-  limits-by f a h k = ap₂ (λ (f a : Bool). open_if (f && a && inside lo && inside hi)) (sym h) (sym k)
-
-  pub not_finite : finite tol ≡ false → Bad ≡ limits_of lo hi tol
-  not_finite h = limits-by false (lt (of_bits binary64 0) tol) h refl
-
-  pub not-above : finite tol ≡ true → lt (of_bits binary64 0) tol ≡ false → Bad ≡ limits_of lo hi tol
-  not-above h k = limits-by true false h k
-
-  pub both-fine : finite tol ≡ true → lt (of_bits binary64 0) tol ≡ true → ends_of lo hi ≡ limits_of lo hi tol
-  both-fine h k = limits-by true true h k
+use Rattle.isolate.specs.Isolate.{isolate_from}
 
 module _ (p : List Ratio) (lo hi tol : Float) (f : Answer) (e : f ≡ answer_of (square_free plain p 0)) where
   pub free-refused : (why : Reason) → f.outcome ≡ Err why → refused_for why ≡ isolation_of (isolate_from p lo hi tol)

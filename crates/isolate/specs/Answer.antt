@@ -1,6 +1,6 @@
 -- Document 01, module 6: the list of roots as it is handed back. A refusal returns an empty list.
 use Rattle.ratio.specs.Refusal.{no_refusal}
-use Rattle.std.specs.Prelude.{◌≡◌, List, ◌++◌, ◌-◌, Float, length, take, replicate, Ok, Err}
+use Rattle.std.specs.Prelude.{◌≡◌, List, ◌++◌, ◌-◌, Float, length, take, replicate, Err}
 use Rattle.std.specs.Float.{binary64}
 use Rattle.std.specs.Float.Ieee.{of_bits}
 use Rattle.ratio.specs.declared.Reason.{Reason}

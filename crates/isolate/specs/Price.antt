@@ -1,5 +1,5 @@
 -- The price of an isolation (document 01, module 6), quoted from the degree alone: how many calls the bisection makes, and how often a polynomial's value is worked out in floats. 4 for a degree over 31.
-use Rattle.std.specs.Prelude.{◌≡◌, Bool, true, false, List, [], ◌∷◌, ℕ, ◌+◌, ◌*◌, ◌≤◌, leb, Float}
+use Rattle.std.specs.Prelude.{◌≡◌, Bool, true, false, List, [], ◌∷◌, ℕ, ◌+◌, ◌*◌, ◌≤◌, leb, Float, Result, Ok, Err}
 use Rattle.algebra.specs.Textbook.{HasDegree}
 use Rattle.ratio.specs.declared.Ratio.{Ratio}
 use Rattle.ratio.specs.declared.Reason.{Reason}
@@ -19,8 +19,7 @@ use Rattle.bisect.specs.declared.Bracket.{Bracket}
 use Rattle.bisect.specs.Bisect.{bisect_of}
 use Rattle.bisect.specs.Price.{after, calls_for, evaluations_for, most_calls, most_evaluations}
 use Rattle.refine.specs.Price.{root_work, most_of_root}
-use Rattle.isolate.specs.declared.Quote.{Quote}
-use Rattle.isolate.specs.declared.Quote.TheVariants.{Most, Refused}
+use Rattle.isolate.specs.declared.Most.{Most}
 use Rattle.isolate.specs.Isolate.{limits_of}
 
 -- ---- the work, in the order of `isolate_from`
@@ -52,14 +51,14 @@ evaluations_in p lo hi tol = entered (λ why. 0) (both (limits_of lo hi tol) (do
 abbrev pub evaluations_price : ℕ → ℕ
 evaluations_price n = most_evaluations (n + 1) + 64 * most_of_root
 
-abbrev pub quote_if : Bool → ℕ → ℕ → Quote
-quote_if true calls evaluations = Most calls evaluations
-quote_if false calls evaluations = Refused TooLong
+abbrev pub quote_if : Bool → ℕ → ℕ → Result Most Reason
+quote_if true calls evaluations = Ok (record { calls = calls; evaluations = evaluations })
+quote_if false calls evaluations = Err TooLong
 
-abbrev pub isolation_quote : ℕ → Quote
+abbrev pub isolation_quote : ℕ → Result Most Reason
 isolation_quote n = quote_if (leb n 31) most_calls (evaluations_price n)
 
 -- never more than was quoted; and what came through the door has a quote
-pub record QuotesIsolation (n : ℕ) (q : Quote) : Type 0 where
-  pub bounds : (p : Poly) (lo hi tol : Float) → HasDegree (reading p) n → (c e : ℕ) → q ≡ Most c e → (calls_in p lo hi tol ≤ c) × (evaluations_in p lo hi tol ≤ e)
-  pub quoted : (p : Poly) → door_of p ≡ Open → HasDegree (reading p) n → (why : Reason) → q ≡ Refused why → ⊥
+pub record QuotesIsolation (n : ℕ) (q : Result Most Reason) : Type 0 where
+  pub bounds : (p : Poly) (lo hi tol : Float) → HasDegree (reading p) n → (c e : ℕ) → q ≡ Ok (record { calls = c; evaluations = e }) → (calls_in p lo hi tol ≤ c) × (evaluations_in p lo hi tol ≤ e)
+  pub quoted : (p : Poly) → door_of p ≡ Open → HasDegree (reading p) n → (why : Reason) → q ≡ Err why → ⊥

@@ -1,9 +1,7 @@
 -- Document 01, module 6, the sorting of `isolate_real_roots`: each root goes in front of the first that is greater, so that equal ones keep their order (a stable sort). A NaN would be greater than none; finite brackets have none.
-use Rattle.std.specs.Prelude.{Bool, true, false, cond, List, [], ◌∷◌, Float}
+use Rattle.std.specs.Prelude.{Bool, true, false, cond, List, [], ◌∷◌, Float, Option, Some, None}
 use Rattle.std.specs.Float.Ieee.{lt}
 use Rattle.bisect.specs.declared.Bracket.{Bracket}
-use Rattle.refine.specs.declared.Root.{Root}
-use Rattle.refine.specs.declared.Root.TheVariants.{At, Nothing}
 use Rattle.refine.specs.Root.{root_of}
 use Rattle.isolate.specs.declared.Slide.{Slide}
 
@@ -11,9 +9,9 @@ unfoldable pub inserted : Float → List Float → List Float
 inserted x [] = x ∷ []
 inserted x (y ∷ l) = cond (lt x y) (x ∷ y ∷ l) (y ∷ inserted x l)
 
-abbrev pub placed : Root → List Float → List Float
-placed (At x) l = inserted x l
-placed Nothing l = l
+abbrev pub placed : Option Float → List Float → List Float
+placed (Some x) l = inserted x l
+placed None l = l
 
 -- the roots of the brackets, put in their places among those in l
 unfoldable pub roots_onto : List Float → Float → List Bracket → List Float → List Float

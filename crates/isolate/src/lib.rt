@@ -15,7 +15,6 @@ ghost use Rattle.isolate.specs.Price.{isolation_quote, QuotesIsolation};
 use bisect::Brackets;
 use poly::Gate;
 use ratio::Reason;
-use refine::Root;
 use terms::Poly;
 
 // The roots, rising, or why there are none.
@@ -26,11 +25,11 @@ pub struct Isolation {
     pub len: usize,
 }
 
-// The most that an isolation takes, or why there is no quote.
+// The most that an isolation takes: calls of the bisection, and values worked out in floats.
 #[derive(Clone, Copy)]
-pub enum Quote {
-    Most { calls: u64, evaluations: u64 },
-    Refused(Reason),
+pub struct Most {
+    pub calls: u64,
+    pub evaluations: u64,
 }
 
 // One place of the walk that makes room: what stays there, what is carried on, and whether the rest moves up.
@@ -63,6 +62,7 @@ fn nothing() -> Isolation
     }
 }
 
+#[tactic(auto, using(crate::proofs::Auto::pushes))]
 fn push(found: Isolation, x: f64) -> Isolation
     requires { Kept found × (length (roots_in found) < 64) }
     ensures { result ≡ holding (roots_in found ++ (x ∷ [])) }
@@ -80,13 +80,7 @@ fn push(found: Isolation, x: f64) -> Isolation
 fn move_up(moving: bool, carried: f64, y: f64) -> Slide
     ensures { result ≡ slide_of moving carried y }
 {
-    if moving {
-        Slide {
-            moving: true,
-            stays: carried,
-            carried: y,
-        }
-    } else if carried < y {
+    if moving || carried < y {
         Slide {
             moving: true,
             stays: carried,
@@ -123,13 +117,13 @@ fn insert(found: Isolation, x: f64) -> Isolation
     push(out, carried)
 }
 
-fn place(found: Isolation, r: Root) -> Isolation
+fn place(found: Isolation, r: Option<f64>) -> Isolation
     requires { Kept found × (length (roots_in found) < 64) }
     ensures { result ≡ holding (placed r (roots_in found)) }
 {
     match r {
-        Root::At(x) => insert(found, x),
-        Root::Nothing => found,
+        Some(x) => insert(found, x),
+        None => found,
     }
 }
 
@@ -157,6 +151,7 @@ fn roots_along(row: &[f64], b: Brackets, tol: f64) -> Isolation
 }
 
 // The same of a polynomial, whose floats are worked out once.
+#[tactic(auto, using(crate::proofs::Auto::rows))]
 fn gather(p: Poly, b: Brackets, tol: f64) -> Isolation
     ensures { result ≡ holding (roots_onto (floats_of (terms_of p)) tol (items_of b) []) }
 {
@@ -168,6 +163,7 @@ fn gather(p: Poly, b: Brackets, tol: f64) -> Isolation
 // ---- roots that are too close
 
 // x behind the others, where it is not too close to the last one kept.
+#[tactic(auto, using(crate::proofs::Auto::keeps))]
 fn keep(found: Isolation, x: f64, tol: f64) -> Isolation
     requires { Kept found × (length (roots_in found) < 64) }
     ensures { result ≡ holding (kept_list tol x (roots_in found)) }
@@ -201,6 +197,7 @@ fn dedup(found: Isolation, tol: f64) -> Isolation
 // ---- isolation
 
 // The isolation of a polynomial that came through the door. An empty chain has no bracket.
+#[tactic(auto, using(crate::proofs::Auto::ways))]
 fn isolate_plain(p: Poly, lo: f64, hi: f64, tol: f64) -> Isolation
     ensures { result ≡ isolation_of (isolate_from (terms_of p) lo hi tol) }
 {
@@ -227,9 +224,7 @@ fn isolate_plain(p: Poly, lo: f64, hi: f64, tol: f64) -> Isolation
 pub fn limits(lo: f64, hi: f64, tol: f64) -> Gate
     ensures is { result ≡ limits_of lo hi tol }
 {
-    if !bridge::is_finite(tol) {
-        Gate::Bad
-    } else if tol > 0.0 {
+    if bridge::is_finite(tol) && tol > 0.0 {
         sturm::ends(lo, hi)
     } else {
         Gate::Bad
@@ -237,6 +232,7 @@ pub fn limits(lo: f64, hi: f64, tol: f64) -> Gate
 }
 
 // The real roots from lo to hi, as far as floats tell; falling ends are taken as they are.
+#[tactic(auto, using(crate::proofs::Auto::promises))]
 pub fn isolate_real_roots(p: Poly, lo: f64, hi: f64, tol: f64) -> Isolation
     ensures is { result ≡ isolate_for p lo hi tol }
     ensures promise { IsolationPromise p lo hi tol result }
@@ -252,16 +248,17 @@ pub fn isolate_real_roots(p: Poly, lo: f64, hi: f64, tol: f64) -> Isolation
 // ---- the price
 
 // The calls of the bisection and the values worked out in floats that no isolation passes, from the degree alone.
-pub fn isolation_price(degree: u64) -> Quote
+#[tactic(auto, using(crate::proofs::Auto::quotes))]
+pub fn isolation_price(degree: u64) -> Result<Most, Reason>
     ensures is { result ≡ isolation_quote degree }
     ensures promise { QuotesIsolation degree result }
 {
     if degree > 31 {
-        Quote::Refused(Reason::TooLong)
+        Err(Reason::TooLong)
     } else {
-        Quote::Most {
+        Ok(Most {
             calls: 6305,
             evaluations: 3187 * degree + 19237,
-        }
+        })
     }
 }

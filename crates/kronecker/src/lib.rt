@@ -14,7 +14,6 @@ ghost use Rattle.kronecker.specs.Combinations.{Stored, rows_of, grown, gathered,
 ghost use Rattle.kronecker.specs.Interpolation.{skip, away_from, basis_step, basis_of, Serves, Serving, part_from, added_from, interpolated_of};
 ghost use Rattle.kronecker.specs.Split.{without, is_over, judged, tried_of, tried_from, tried_gathered, tried_at, most_of, try_split_of};
 
-use divisors::Found;
 use ratio::{Ratio, Reason};
 use terms::{Answer, Poly};
 
@@ -190,15 +189,15 @@ fn grow(old: Combinations, j: usize, size: u64, marks: &[u64; 1024]) -> Combinat
         if m >= 100 {
             return out;
         }
-        let Found::At { value, next } = divisors::next_factor(size, marks, at) else {
+        let Some(d) = divisors::next_factor(size, marks, at) else {
             i += 1;
             at = 0;
             continue;
         };
-        let row = longer(old.rows[i], j, whole(value));
+        let row = longer(old.rows[i], j, whole(d.value));
         out.rows[m] = row;
         out.len = m + 1;
-        at = next;
+        at = d.next;
     }
     out
 }

@@ -1,5 +1,5 @@
 -- The promises, said of the models: an answered operation is the textbook's, and what is handed back is canonical.
-use Rattle.std.specs.Prelude.{Result, Ok, Err}
+use Rattle.std.specs.Prelude.{Result, Ok, Err, Option, Some, None}
 use mathlib.Core.Path.{◌≡◌, refl, sym, ap, subst, ◌∙◌}
 use mathlib.Core.Bool.{Bool, true, false}
 use mathlib.Core.List.{List, [], ◌∷◌}
@@ -46,10 +46,6 @@ use Rattle.terms.proofs.MeaningTop.{trim-nothing}
 use Rattle.terms.proofs.MeaningCanonical.{Canonical, trim-canonical, canonical-degree, canonical-nil}
 use Rattle.poly.specs.declared.Gate.{Gate}
 use Rattle.poly.specs.declared.Gate.TheVariants.{Open, Long as TooMany, Bad}
-use Rattle.poly.specs.declared.Truth.{Truth}
-use Rattle.poly.specs.declared.Truth.TheVariants as T
-use Rattle.poly.specs.declared.Exponent.{Exponent}
-use Rattle.poly.specs.declared.Exponent.TheVariants as E
 use Rattle.poly.specs.Door.{door_of, door_of_ratio, both, long_if, entered, enter, enter_step, top_is_some, all_lowest}
 use Rattle.poly.specs.Parts.{paired, parts_door, parts_of}
 use Rattle.poly.specs.Promise.{reading, variable, Gives, GivesValue, TellsDegree, TellsZero, TellsLead}
@@ -263,7 +259,7 @@ enter-value Bad x s h = refused-value x BadInput
 pub eval-gives : (p : Poly) (x : Ratio) → GivesValue (P.value (reading p) (rat x)) (eval_of p x)
 eval-gives p x = enter-value (both (door_of p) (door_of_ratio x)) _ _ (step_gives _ (value_of (terms_of p) x) (λ r e. value-done (terms_of p) x r e))
 
-degree-some : (d : Gate) (l : List Ratio) (n : ℕ) → entered E.Refused d (exponent l) ≡ E.Is n → (d ≡ Open → Canonical l) → HasDegree (rats l) n
+degree-some : (d : Gate) (l : List Ratio) (n : ℕ) → entered Err d (Ok (exponent l)) ≡ Ok (Some n) → (d ≡ Open → Canonical l) → HasDegree (rats l) n
 degree-some Open [] n e c = let z : ◌≡◌ {A = ℕ} 0 1 = cc in absurd (omega arith)
 degree-some Open (a ∷ l) n e c =
     let f : length l ≡ n = cc in
@@ -271,19 +267,19 @@ degree-some Open (a ∷ l) n e c =
 degree-some TooMany l n e c = let z : ◌≡◌ {A = ℕ} 0 1 = cc in absurd (omega arith)
 degree-some Bad l n e c = let z : ◌≡◌ {A = ℕ} 0 1 = cc in absurd (omega arith)
 
-degree-none : (d : Gate) (l : List Ratio) → entered E.Refused d (exponent l) ≡ E.Zero → IsZero (rats l)
+degree-none : (d : Gate) (l : List Ratio) → entered Err d (Ok (exponent l)) ≡ Ok None → IsZero (rats l)
 degree-none Open [] e = zero-from [] poly-empty
 degree-none Open (a ∷ l) e = let z : ◌≡◌ {A = ℕ} 0 1 = cc in absurd (omega arith)
 degree-none TooMany l e = let z : ◌≡◌ {A = ℕ} 0 1 = cc in absurd (omega arith)
 degree-none Bad l e = let z : ◌≡◌ {A = ℕ} 0 1 = cc in absurd (omega arith)
 
-empty-yes : (d : Gate) (l : List Ratio) → entered T.Refused d (empty l) ≡ T.Yes → IsZero (rats l)
+empty-yes : (d : Gate) (l : List Ratio) → entered Err d (Ok (empty l)) ≡ Ok true → IsZero (rats l)
 empty-yes Open [] e = zero-from [] poly-empty
 empty-yes Open (a ∷ l) e = let z : ◌≡◌ {A = ℕ} 0 1 = cc in absurd (omega arith)
 empty-yes TooMany l e = let z : ◌≡◌ {A = ℕ} 0 1 = cc in absurd (omega arith)
 empty-yes Bad l e = let z : ◌≡◌ {A = ℕ} 0 1 = cc in absurd (omega arith)
 
-empty-no : (d : Gate) (l : List Ratio) → entered T.Refused d (empty l) ≡ T.No → (d ≡ Open → Canonical l) → IsZero (rats l) → ⊥
+empty-no : (d : Gate) (l : List Ratio) → entered Err d (Ok (empty l)) ≡ Ok false → (d ≡ Open → Canonical l) → IsZero (rats l) → ⊥
 empty-no Open [] e c h = let z : ◌≡◌ {A = ℕ} 0 1 = cc in omega arith
 empty-no Open (a ∷ l) e c h = let z : length (a ∷ l) ≡ 0 = ap length (canonical-nil (a ∷ l) (c refl) (zero-to (rats (a ∷ l)) h)) in omega arith
 empty-no TooMany l e c h = let z : ◌≡◌ {A = ℕ} 0 1 = cc in omega arith
@@ -295,8 +291,8 @@ zero-tells p = record {
   no = λ e. empty-no (door_of p) (terms_of p) e (λ o. (opened p o).canonical);
 }
 
-pub with-zero : (p : Poly) (t : Truth) → t ≡ is_zero_of p → (t ≡ is_zero_of p) × TellsZero p t
-with-zero p t e = (e, subst (TellsZero p) (sym e) (zero-tells p))
+pub zero-told : (p : Poly) (t : Result Bool Reason) → t ≡ is_zero_of p → TellsZero p t
+zero-told p t e = subst (TellsZero p) (sym e) (zero-tells p)
 
 pub degree-tells : (p : Poly) → TellsDegree p (degree_of p)
 degree-tells p = record {
@@ -322,14 +318,11 @@ lead-tells p = record { is = λ n d. enter-lead (door_of p) (coeff (reading p) n
 
 -- ---- a result that is the model's has the model's promise
 
-pub with-gives : {x : List Rat} (r m : Answer) → Gives x m → r ≡ m → (r ≡ m) × Gives x r
-with-gives {x} r m h e = (e, subst (λ (t : Answer). Gives x t) (sym e) h)
+pub eval-told : (p : Poly) (x : Ratio) (r : Result Ratio Reason) → r ≡ eval_of p x → GivesValue (P.value (reading p) (rat x)) r
+eval-told p x r e = subst (GivesValue (P.value (reading p) (rat x))) (sym e) (eval-gives p x)
 
-pub with_value : {x : Rat} (r m : Result Ratio Reason) → GivesValue x m → r ≡ m → (r ≡ m) × GivesValue x r
-with_value {x} r m h e = (e, subst (λ (t : Result Ratio Reason). GivesValue x t) (sym e) h)
+pub lead-told : (p : Poly) (r : Result Ratio Reason) → r ≡ lead_of p → TellsLead p r
+lead-told p r e = subst (TellsLead p) (sym e) (lead-tells p)
 
-pub with-degree : (p : Poly) (r : Exponent) → r ≡ degree_of p → (r ≡ degree_of p) × TellsDegree p r
-with-degree p r e = (e, subst (λ (t : Exponent). TellsDegree p t) (sym e) (degree-tells p))
-
-pub with_lead : (p : Poly) (r : Result Ratio Reason) → r ≡ lead_of p → (r ≡ lead_of p) × TellsLead p r
-with_lead p r e = (e, subst (λ (t : Result Ratio Reason). TellsLead p t) (sym e) (lead-tells p))
+pub degree-told : (p : Poly) (r : Result (Option ℕ) Reason) → r ≡ degree_of p → TellsDegree p r
+degree-told p r e = subst (λ (t : Result (Option ℕ) Reason). TellsDegree p t) (sym e) (degree-tells p)

@@ -5,3 +5,4 @@ pub mod Powers
 pub mod Parts
 pub mod Unit
 pub mod Gives
+pub mod Auto

@@ -5,7 +5,7 @@ use mathlib.Core.List.{List, [], ◌∷◌, ◌++◌, append_assoc}
 use Prim.Native.Nat.{ℕ, zero, suc, ◌+◌, ◌-◌, ◌<◌, ◌≤◌}
 use native.Mathlib.Numerals.{add-one}
 use native.Mathlib.Omega.{arith}
-use borrow.Author.Tests.{eqb-true, eq-eqb, ne_eqb, lt-ltb, le-ltb, ltb-false}
+use borrow.Author.Tests.{eqb-true, eq-eqb, ne_eqb, ltb-false}
 use mir.Syntax.{w64}
 use mir.Val.{SFits, of_z, to_z}
 use mir.Facts.{to_z-of_z}
@@ -19,13 +19,12 @@ use Rattle.ratio.specs.declared.Ratio.{Ratio}
 use Rattle.ratio.proofs.Words.{nil-test}
 use Rattle.terms.specs.declared.Poly.{Poly}
 use Rattle.terms.specs.Poly.{poly_of, trim, drop_top}
-use Rattle.terms.specs.Answer.{done_with}
 use Rattle.terms.proofs.Lists.{top-less, trim-short}
 use Rattle.terms.proofs.MeaningTop.{trim-nothing}
 use Rattle.poly.specs.declared.Gate.{Gate}
-use Rattle.poly.specs.declared.Gate.TheVariants.{Open, Long, Bad}
-use Rattle.poly.specs.Door.{all_lowest, top_is_some, enter}
-use Rattle.poly.specs.Parts.{paired, parts_lowest, bad_unless, parts_door, parts_of}
+use Rattle.poly.specs.declared.Gate.TheVariants.{Open}
+use Rattle.poly.specs.Door.{all_lowest, top_is_some}
+use Rattle.poly.specs.Parts.{paired, parts_lowest, bad_unless, parts_door}
 use Rattle.poly.proofs.Canonical.{long-if}
 
 -- ---- the pairs
@@ -82,20 +81,7 @@ module _ (ns ds : List ℤ) where
       ∙ sym (top-by (paired ns ds) (length ns - 1) _ s refl)
       ∙ ap (λ (t : Bool). t && top_is_some (paired ns ds)) a
 
-  -- ---- the door
-
-  pub parts-uneven : (length ns ≡ length ds → ⊥) → Bad ≡ parts_door ns ds
-  parts-uneven h = rw (ne_eqb (length ns) (length ds) h)
-
-  module _ (e : length ns ≡ length ds) where
-    pub parts-not : parts_lowest ns ds ≡ false → Bad ≡ parts_door ns ds
-    parts-not f = rw (eq-eqb (length ns) (length ds) e, f)
-
-    pub parts-long : parts_lowest ns ds ≡ true → 32 < length ns → Long ≡ parts_door ns ds
-    parts-long f h = rw (eq-eqb (length ns) (length ds) e, f, lt-ltb 32 (length ns) h)
-
-    pub parts-open : parts_lowest ns ds ≡ true → length ns ≤ 32 → Open ≡ parts_door ns ds
-    parts-open f h = rw (eq-eqb (length ns) (length ds) e, f, le-ltb 32 (length ns) h)
+-- ---- the door
 
 pub bad-unless : (t : Bool) (d : Gate) → bad_unless t d ≡ Open → (t ≡ true) × (d ≡ Open)
 bad-unless true d e = (refl, e)
@@ -116,10 +102,6 @@ fitting ns ds e =
       lowest = g.0;
       few = ltb-false 32 (length ns) (long-if (ltb 32 (length ns)) Open g.1).0;
     }
-
-pub parts_are : (ns ds : List ℤ) → enter (parts_door ns ds) (done_with (poly_of (paired ns ds)) 0) ≡ parts_of ns ds
-unfolding parts_of
-parts_are ns ds = refl
 
 -- ---- the array
 

@@ -1,12 +1,12 @@
 -- The door of a power, and the loop of products.
 use Rattle.ratio.specs.Refusal.{no_refusal}
-use Rattle.std.specs.Prelude.{Ok, Err}
+use Rattle.std.specs.Prelude.{Err}
 use mathlib.Core.Path.{◌≡◌, ap}
 use mathlib.Core.List.{List, [], ◌∷◌}
 use Prim.Native.Nat.{ℕ, suc, ◌+◌, ◌-◌, ◌*◌, ◌<◌, ◌≤◌}
 use native.Mathlib.Omega.{arith}
 use native.Mathlib.Nat.{mul-le-mul}
-use borrow.Author.Tests.{lt-ltb, le-ltb, ltb-false}
+use borrow.Author.Tests.{ltb-false}
 use lib.Dec.{ltb}
 use lib.IntN.{pos}
 use lib.ListN.{length}
@@ -18,30 +18,11 @@ use Rattle.terms.specs.Poly.{terms_of, poly_of}
 use Rattle.terms.specs.Machine.{whole_r}
 use Rattle.terms.specs.Answer.{done_with, refused_with, product_of}
 use Rattle.terms.proofs.Few.{product-few}
-use Rattle.poly.specs.declared.Gate.TheVariants.{Open, Long}
+use Rattle.poly.specs.declared.Gate.TheVariants.{Open}
 use Rattle.poly.specs.Operations.{power_door, powered, power_from}
 use Rattle.poly.proofs.Canonical.{long-if}
 
 -- ---- the door
-
-module _ (a : List Ratio) (n : ℕ) where
-  pub power-many : 200 < n → Long ≡ power_door a n
-  power-many h = rw (lt-ltb 200 n h)
-
-  pub power_zero : n ≤ 200 → length a ≡ 0 → Open ≡ power_door a n
-  power_zero h e =
-      let z : (length a - 1) * n ≡ 0 = rw e (omega arith) in
-      rw (le-ltb 200 n h, z)
-
-  module _ (len : ℕ) (e : len ≡ length a) (h : n ≤ 200) where
-    pub power-long : 31 < (len - 1) * n → Long ≡ power_door a n
-    power-long k = rw (le-ltb 200 n h, ← e, lt-ltb 31 ((len - 1) * n) k)
-
-    pub power-open : (len - 1) * n ≤ 31 → Open ≡ power_door a n
-    power-open k = rw (le-ltb 200 n h, ← e, le-ltb 31 ((len - 1) * n) k)
-
-pub product_small : (a b : ℕ) → a ≤ 31 → b ≤ 200 → a * b ≤ 6200
-product_small a b h k = mul-le-mul h k
 
 pub power-few : (a : List Ratio) (n : ℕ) → power_door a n ≡ Open → n ≤ 200
 power-few a n e = ltb-false 200 n (long-if (ltb 200 n) _ e).0

@@ -1,6 +1,6 @@
 -- Document 01, module 3: what each public operation answers: the door first, then the work.
 use Rattle.ratio.specs.declared.Reason.{Reason}
-use Rattle.std.specs.Prelude.{List, [], ◌∷◌, ◌++◌, ℕ, zero, suc, ◌+◌, ◌-◌, ◌*◌, ltb, pos, length, get_or, replicate, Result, Ok, Err}
+use Rattle.std.specs.Prelude.{List, [], ◌∷◌, ◌++◌, ℕ, zero, suc, ◌+◌, ◌-◌, ◌*◌, ltb, pos, length, get_or, replicate, Result, Ok, Err, Option, Some, None, Bool, true, false}
 use Rattle.ratio.specs.Refusal.{zero_r, Outcome}
 use Rattle.ratio.specs.declared.Ratio.{Ratio}
 use Rattle.terms.specs.declared.Poly.{Poly}
@@ -9,10 +9,6 @@ use Rattle.terms.specs.Poly.{terms_of, poly_of, trim}
 use Rattle.terms.specs.Machine.{plus, minus, plain, whole_r}
 use Rattle.terms.specs.Work.{zipped, scaled, derived}
 use Rattle.terms.specs.Answer.{done_with, refused_with, answer_of, negated_of, product_of, value_of}
-use Rattle.poly.specs.declared.Exponent.{Exponent}
-use Rattle.poly.specs.declared.Exponent.TheVariants as D
-use Rattle.poly.specs.declared.Truth.{Truth}
-use Rattle.poly.specs.declared.Truth.TheVariants as T
 use Rattle.poly.specs.declared.Gate.{Gate}
 use Rattle.poly.specs.declared.Gate.TheVariants.{Open}
 use Rattle.poly.specs.Door.{door_of, door_of_ratio, both, long_if, entered, enter, enter_step}
@@ -24,19 +20,19 @@ constant_of c = enter (door_of_ratio c) (done_with (poly_of (trim (c ∷ []))) 0
 abbrev pub monomial_of : ℕ → Answer
 monomial_of n = enter (long_if (ltb 31 n) Open) (done_with (poly_of (replicate n zero_r ++ (whole_r (pos 1) ∷ []))) 0)
 
-abbrev pub exponent : List Ratio → Exponent
-exponent [] = D.Zero
-exponent (a ∷ l) = D.Is (length l)
+abbrev pub exponent : List Ratio → Option ℕ
+exponent [] = None
+exponent (a ∷ l) = Some (length l)
 
-abbrev pub degree_of : Poly → Exponent
-degree_of p = entered D.Refused (door_of p) (exponent (terms_of p))
+abbrev pub degree_of : Poly → Result (Option ℕ) Reason
+degree_of p = entered Err (door_of p) (Ok (exponent (terms_of p)))
 
-abbrev pub empty : List Ratio → Truth
-empty [] = T.Yes
-empty (a ∷ l) = T.No
+abbrev pub empty : List Ratio → Bool
+empty [] = true
+empty (a ∷ l) = false
 
-abbrev pub is_zero_of : Poly → Truth
-is_zero_of p = entered T.Refused (door_of p) (empty (terms_of p))
+abbrev pub is_zero_of : Poly → Result Bool Reason
+is_zero_of p = entered Err (door_of p) (Ok (empty (terms_of p)))
 
 abbrev pub lead_of : Poly → Result Ratio Reason
 lead_of p = enter_step (door_of p) (Ok (get_or (terms_of p) (length (terms_of p) - 1) zero_r))

@@ -1,7 +1,7 @@
 -- Demand 2 for polynomials: an answered operation is the textbook's, and what is handed back is canonical.
 use Rattle.ratio.specs.declared.Reason.{Reason}
 use Rattle.ratio.specs.declared.Ratio.{Ratio}
-use Rattle.std.specs.Prelude.{◌≡◌, List, [], ◌∷◌, ℕ, Result}
+use Rattle.std.specs.Prelude.{◌≡◌, List, [], ◌∷◌, ℕ, Result, Option, Some, None, Ok, Bool, true, false}
 use Rattle.algebra.specs.Rational.{Rat, Same, zero_q, one_q}
 use Rattle.algebra.specs.Polynomial.{Equal, coeff}
 use Rattle.algebra.specs.Textbook.{HasDegree, IsZero}
@@ -11,10 +11,6 @@ use Rattle.terms.specs.declared.Poly.{Poly}
 use Rattle.terms.specs.declared.Answer.{Answer}
 use Rattle.terms.specs.Poly.{terms_of}
 use Rattle.terms.specs.Meaning.{rats}
-use Rattle.poly.specs.declared.Exponent.{Exponent}
-use Rattle.poly.specs.declared.Exponent.TheVariants as E
-use Rattle.poly.specs.declared.Truth.{Truth}
-use Rattle.poly.specs.declared.Truth.TheVariants as T
 use Rattle.poly.specs.declared.Gate.TheVariants.{Open}
 use Rattle.poly.specs.Door.{door_of}
 
@@ -37,14 +33,14 @@ pub record GivesValue (x : Rat) (s : Result Ratio Reason) : Type 0 where
   pub lowest : status_of s ≡ 0 → Lowest (ratio_of s)
 
 -- the degree of p
-pub record TellsDegree (p : Poly) (e : Exponent) : Type 0 where
-  pub some : (n : ℕ) → e ≡ E.Is n → HasDegree (reading p) n
-  pub none : e ≡ E.Zero → IsZero (reading p)
+pub record TellsDegree (p : Poly) (e : Result (Option ℕ) Reason) : Type 0 where
+  pub some : (n : ℕ) → e ≡ Ok (Some n) → HasDegree (reading p) n
+  pub none : e ≡ Ok None → IsZero (reading p)
 
 -- whether p is zero
-pub record TellsZero (p : Poly) (t : Truth) : Type 0 where
-  pub yes : t ≡ T.Yes → IsZero (reading p)
-  pub no : t ≡ T.No → IsZero (reading p) → ⊥
+pub record TellsZero (p : Poly) (t : Result Bool Reason) : Type 0 where
+  pub yes : t ≡ Ok true → IsZero (reading p)
+  pub no : t ≡ Ok false → IsZero (reading p) → ⊥
 
 -- the coefficient that leads
 pub record TellsLead (p : Poly) (s : Result Ratio Reason) : Type 0 where

@@ -24,20 +24,6 @@ pub enum Gate {
     Bad,
 }
 
-#[derive(Clone, Copy)]
-pub enum Exponent {
-    Zero,
-    Is(usize),
-    Refused(Reason),
-}
-
-#[derive(Clone, Copy)]
-pub enum Truth {
-    Yes,
-    No,
-    Refused(Reason),
-}
-
 // ---- the door
 
 fn all_lowest(p: Poly) -> bool
@@ -58,7 +44,7 @@ fn all_lowest(p: Poly) -> bool
 fn is_unused(r: Ratio) -> bool
     ensures { result ≡ is_unused r }
 {
-    if r.num == 0 { r.den == 1 } else { false }
+    r.num == 0 && r.den == 1
 }
 
 fn all_unused(p: Poly) -> bool
@@ -174,40 +160,35 @@ pub fn monomial(degree: usize) -> Answer
 // ---- questions
 
 // The degree; zero has none.
-pub fn degree(p: Poly) -> Exponent
+#[tactic(auto, using(crate::proofs::Auto::told))]
+pub fn degree(p: Poly) -> Result<Option<usize>, Reason>
     ensures is { result ≡ degree_of p }
     ensures promise { TellsDegree p result }
 {
     let d = door(p);
     if let Gate::Open = d {
         let n = p.length();
-        if n == 0 {
-            Exponent::Zero
-        } else {
-            Exponent::Is(n - 1)
-        }
+        if n == 0 { Ok(None) } else { Ok(Some(n - 1)) }
     } else {
-        Exponent::Refused(reason(d))
+        Err(reason(d))
     }
 }
 
-pub fn is_zero(p: Poly) -> Truth
+#[tactic(auto, using(crate::proofs::Auto::told))]
+pub fn is_zero(p: Poly) -> Result<bool, Reason>
     ensures is { result ≡ is_zero_of p }
     ensures promise { TellsZero p result }
 {
     let d = door(p);
     if let Gate::Open = d {
-        if p.length() == 0 {
-            Truth::Yes
-        } else {
-            Truth::No
-        }
+        Ok(p.length() == 0)
     } else {
-        Truth::Refused(reason(d))
+        Err(reason(d))
     }
 }
 
 // The leading coefficient; 0 of zero.
+#[tactic(auto, using(crate::proofs::Auto::told))]
 pub fn leading_coeff(p: Poly) -> Result<Ratio, Reason>
     ensures is { result ≡ lead_of p }
     ensures promise { TellsLead p result }
@@ -300,6 +281,7 @@ pub fn diff(p: Poly) -> Answer
 }
 
 // The value at x; one power of x beyond the last coefficient is taken, so that it may refuse needlessly.
+#[tactic(auto, using(crate::proofs::Auto::told))]
 pub fn eval(p: Poly, x: Ratio) -> Result<Ratio, Reason>
     ensures is { result ≡ eval_of p x }
     ensures promise { GivesValue (value (reading p) (rat x)) result }
@@ -387,6 +369,7 @@ fn parts_door(nums: &[i64], dens: &[i64]) -> Gate
 }
 
 // The polynomial of these numerators and denominators, rising.
+#[tactic(auto, unfolding(crate::specs::Parts::parts_of))]
 pub fn from_parts(nums: &[i64], dens: &[i64]) -> Answer
     ensures is { result ≡ parts_of nums.now dens.now }
     ensures promise { Gives (rats (paired nums.now dens.now)) result }

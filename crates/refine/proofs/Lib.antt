@@ -1,3 +1,2 @@
 pub mod Halvings
-pub mod Chosen
 pub mod Prices

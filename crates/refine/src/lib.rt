@@ -15,13 +15,6 @@ struct Side {
     value: f64,
 }
 
-// A root, where a bracket has one.
-#[derive(Clone, Copy)]
-pub enum Root {
-    At(f64),
-    Nothing,
-}
-
 // `x.abs()`; -0.0 stays, since it is only compared.
 pub fn size(x: f64) -> f64
     ensures is { result ≡ size_of x }
@@ -86,51 +79,42 @@ fn bisect_refine(row: &[f64], x: Bracket, fa: f64, tol: f64) -> f64
 fn crosses(fa: f64, fb: f64) -> bool
     ensures { result ≡ crosses_of fa fb }
 {
-    if !bridge::is_finite(fa) {
-        false
-    } else if !bridge::is_finite(fb) {
-        false
-    } else {
-        fa * fb < 0.0
-    }
+    bridge::is_finite(fa) && bridge::is_finite(fb) && fa * fb < 0.0
 }
 
 fn near(v: f64, tol: f64) -> bool
     ensures { result ≡ near_of v tol }
 {
-    if bridge::is_finite(v) {
-        size(v) < tol
-    } else {
-        false
-    }
+    bridge::is_finite(v) && size(v) < tol
 }
 
-// The root of a polynomial in a bracket, as the original chooses it; the polynomial is given by the floats of its coefficients.
-pub fn root_in(row: &[f64], x: Bracket, tol: f64) -> Root
+// The root of a polynomial in a bracket, where it has one, as the original chooses it; the polynomial is given by the floats of its coefficients.
+#[tactic(auto, unfolding(crate::specs::Root::chosen))]
+pub fn root_in(row: &[f64], x: Bracket, tol: f64) -> Option<f64>
     ensures is { result ≡ root_of row.now x tol }
 {
     let fa = sturm::eval_f64(row, x.left);
     let fb = sturm::eval_f64(row, x.right);
     if size(x.right - x.left) < tol {
         if size(fa) <= size(fb) {
-            return Root::At(x.left);
+            return Some(x.left);
         }
-        return Root::At(x.right);
+        return Some(x.right);
     }
     if fa == 0.0 {
-        return Root::At(x.left);
+        return Some(x.left);
     }
     if fb == 0.0 {
-        return Root::At(x.right);
+        return Some(x.right);
     }
     if crosses(fa, fb) {
-        return Root::At(bisect_refine(row, x, fa, tol));
+        return Some(bisect_refine(row, x, fa, tol));
     }
     if near(fa, tol) {
-        return Root::At(x.left);
+        return Some(x.left);
     }
     if near(fb, tol) {
-        return Root::At(x.right);
+        return Some(x.right);
     }
-    Root::Nothing
+    None
 }

@@ -232,6 +232,3 @@ module _ (p : Poly) where
 
   pub content-promise : ContentPromise p (content_for p)
   content-promise = entered-keeps Err (ContentPromise p) (door_of p) (Ok (content_of (terms_of p))) (λ e. open-content (opened p e)) refused-content
-
-  pub content-both : (s : Result Ratio Reason) → s ≡ content_for p → (s ≡ content_for p) × ContentPromise p s
-  content-both s e = (e, subst (ContentPromise p) (sym e) content-promise)

@@ -5,3 +5,4 @@ pub mod ContentWhole
 pub mod Contents
 pub mod Primitives
 pub mod Listed
+pub mod Auto

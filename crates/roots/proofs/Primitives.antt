@@ -27,7 +27,6 @@ use Rattle.ratio.specs.declared.Reason.{Reason}
 use Rattle.ratio.specs.declared.Reason.TheVariants.{CoeffOverflow}
 use Rattle.ratio.proofs.Fractions.{no_size, nil-some}
 use Rattle.ratio.proofs.Steps.{value, nil-value, inv-done, inv-fits, inv-is, neg-kept}
-use Rattle.terms.specs.declared.Answer.{Answer}
 use Rattle.terms.specs.declared.Poly.{Poly}
 use Rattle.terms.specs.Answer.{done_with, refused_with, answer_of, negated_of}
 use Rattle.terms.specs.Machine.{Ran, fine, over as ran_over, plain}
@@ -194,6 +193,3 @@ shut-part p shut why = record { is = λ h s. absurd (never_done why s); lead = �
 
 pub primitive-promise : (p : Poly) → PrimitivePromise p (primitive_of p)
 primitive-promise p = entered-keeps (λ why. refused_with why 0) (PrimitivePromise p) (door_of p) _ (λ e. part-open p (opened p e) e (inv_of (content_of (terms_of p))) refl) (shut-part p)
-
-pub primitive-both : (p : Poly) (r : Answer) → r ≡ primitive_of p → (r ≡ primitive_of p) × PrimitivePromise p r
-primitive-both p r e = (e, subst (PrimitivePromise p) (sym e) (primitive-promise p))

@@ -156,6 +156,3 @@ module _ (p : Poly) (budget : ℕ) where
 pub roots-promise : (p : Poly) (budget : ℕ) → RootsPromise p budget (rational_roots_of p budget)
 roots-promise p budget = entered-keeps (λ why. no_roots why 0 0) (RootsPromise p budget) (both (door_of p) (budget_door budget)) (roots_of (terms_of p) budget)
     (λ e. open-roots p budget (opened p (both-open (door_of p) (budget_door budget) e).0)) (refused-roots p budget)
-
-pub roots-both : (p : Poly) (budget : ℕ) (r : Roots) → r ≡ rational_roots_of p budget → (r ≡ rational_roots_of p budget) × RootsPromise p budget r
-roots-both p budget r e = (e, subst (RootsPromise p budget) (sym e) (roots-promise p budget))

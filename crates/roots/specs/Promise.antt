@@ -1,5 +1,5 @@
 -- Demand 2 and demand 3 for module 5, roots: an answered list holds each rational root once, rising, in lowest terms, and nothing else; and what the search costs.
-use Rattle.std.specs.Prelude.{◌≡◌, ℕ, suc, ◌+◌, ◌*◌, ◌<◌, ◌≤◌, ℤ, nat_abs, get_or}
+use Rattle.std.specs.Prelude.{◌≡◌, ℕ, suc, ◌+◌, ◌*◌, ◌<◌, ◌≤◌, ℤ, nat_abs, get_or, Result, Ok, Err}
 use Rattle.algebra.specs.Rational.{Rat, Same, Less}
 use Rattle.algebra.specs.Textbook.{HasDegree, IsZero, IsRoot}
 use Rattle.ratio.specs.Promise.{rat, Lowest}
@@ -14,7 +14,6 @@ use Rattle.divisors.specs.Marks.{listing_of}
 use Rattle.divisors.specs.Promise.{Root}
 use Rattle.search.specs.declared.Roots.{Roots}
 use Rattle.roots.specs.declared.Quote.{Quote}
-use Rattle.roots.specs.declared.Quote.TheVariants.{Most, Refused}
 use Rattle.roots.specs.Answer.{budget_door, rational_roots_of}
 use Rattle.roots.specs.Quote.{candidates_price}
 
@@ -42,9 +41,9 @@ pub record RootsPromise (p : Poly) (budget : ℕ) (r : Roots) : Type 0 where
   pub price : (n : ℕ) → HasDegree (reading p) n → r.steps ≤ 3 * (n + 1) * r.tried
 
 -- no search of this degree and budget takes more than was quoted; and what came through the door has a quote
-pub record QuotesRoots (n budget : ℕ) (q : Quote) : Type 0 where
-  pub bounds : (p : Poly) → HasDegree (reading p) n → (t c s : ℕ) → q ≡ Most t c s → ((rational_roots_of p budget).tried ≤ c) × ((rational_roots_of p budget).steps ≤ s)
+pub record QuotesRoots (n budget : ℕ) (q : Result Quote Reason) : Type 0 where
+  pub bounds : (p : Poly) → HasDegree (reading p) n → (m : Quote) → q ≡ Ok m → ((rational_roots_of p budget).tried ≤ m.candidates) × ((rational_roots_of p budget).steps ≤ m.steps)
   -- a listing of a tries the numbers up to the root of its size; a search makes two
   pub trials : (a b : ℤ) → status_of (listing_of a budget).outcome ≡ 0 → status_of (listing_of b budget).outcome ≡ 0
-      → (x y : ℕ) → Root (nat_abs a) x → Root (nat_abs b) y → (t c s : ℕ) → q ≡ Most t c s → x + y ≤ t
-  pub quoted : (p : Poly) → door_of p ≡ Open → budget_door budget ≡ Open → HasDegree (reading p) n → (why : Reason) → q ≡ Refused why → ⊥
+      → (x y : ℕ) → Root (nat_abs a) x → Root (nat_abs b) y → (m : Quote) → q ≡ Ok m → x + y ≤ m.trials
+  pub quoted : (p : Poly) → door_of p ≡ Open → budget_door budget ≡ Open → HasDegree (reading p) n → (why : Reason) → q ≡ Err why → ⊥

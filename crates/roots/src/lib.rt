@@ -21,9 +21,7 @@ use terms::{Answer, Poly};
 pub fn door_of_budget(budget: u64) -> Gate
     ensures is { result ≡ budget_door budget }
 {
-    if budget == 0 {
-        Gate::Bad
-    } else if budget > 65536 {
+    if budget == 0 || budget > 65536 {
         Gate::Bad
     } else {
         Gate::Open
@@ -43,35 +41,31 @@ pub fn rational_roots(p: Poly, budget: u64) -> Roots
     }
 }
 
-// The most that a search takes, or why there is no quote.
+// The most that a search takes.
 #[derive(Clone, Copy)]
-pub enum Quote {
-    Most {
-        trials: u64,
-        candidates: u64,
-        steps: u64,
-    },
-    Refused(Reason),
+pub struct Quote {
+    pub trials: u64,
+    pub candidates: u64,
+    pub steps: u64,
 }
 
 // From the degree and the budget alone.
-pub fn roots_price(degree: u64, budget: u64) -> Quote
+#[tactic(auto, using(crate::proofs::Auto::quoted))]
+pub fn roots_price(degree: u64, budget: u64) -> Result<Quote, Reason>
     ensures is { result ≡ roots_quote degree budget }
     ensures promise { QuotesRoots degree budget result }
 {
-    if budget == 0 {
-        Quote::Refused(Reason::BadInput)
-    } else if budget > 65536 {
-        Quote::Refused(Reason::BadInput)
+    if budget == 0 || budget > 65536 {
+        Err(Reason::BadInput)
     } else if degree > 31 {
-        Quote::Refused(Reason::TooLong)
+        Err(Reason::TooLong)
     } else {
         let candidates = 4 * budget * (4 * budget);
-        Quote::Most {
+        Ok(Quote {
             trials: 2 * budget,
             candidates,
             steps: 3 * (degree + 1) * candidates,
-        }
+        })
     }
 }
 

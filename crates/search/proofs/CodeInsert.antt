@@ -1,4 +1,5 @@
 -- Laws of putting a fraction into a list of at most 31 that lies in an array of 32: the loop that carries the larger on, its turn, its end and a repeat.
+use Rattle.std.specs.Prelude.{Some, None}
 use mathlib.Core.Path.{◌≡◌, refl, sym, ap, ap₂, ◌∙◌}
 use mathlib.Core.Bool.{true}
 use mathlib.Core.List.{List, [], ◌∷◌, ◌++◌, append_assoc}
@@ -12,7 +13,6 @@ use Rattle.ratio.specs.Refusal.{zero_r}
 use Rattle.ratio.specs.declared.Ratio.{Ratio}
 use Rattle.terms.specs.Machine.{fine}
 use Rattle.terms.proofs.Lists.{past}
-use Rattle.search.specs.declared.Pair.TheVariants.{Both, Repeat}
 use Rattle.search.specs.declared.Tally.{Tally}
 use Rattle.search.specs.Keep.{turned, placed, place_if, inserted}
 use Rattle.search.specs.Try.{Count}
@@ -52,7 +52,7 @@ module _ (x : Ratio) (l : List Ratio) where
     tail-is : drop (suc i) vs ≡ drop (suc i) l ++ spare
     tail-is = let e = split in cc
 
-    pub placing-more : (low high : Ratio) → turned y (get_or l i zero_r) ≡ Both low high → Placing (i + 1) high (set vs i low)
+    pub placing-more : (low high : Ratio) → turned y (get_or l i zero_r) ≡ Some (low, high) → Placing (i + 1) high (set vs i low)
     unfolding placed
     placing-more low high e = record {
       whole =
@@ -66,7 +66,7 @@ module _ (x : Ratio) (l : List Ratio) where
     }
 
     -- a repeat: the list is as long as it was
-    pub placing-same : turned y (get_or l i zero_r) ≡ Repeat → (vs ≡ filled (placed x l)) × (length l ≡ length (placed x l))
+    pub placing-same : turned y (get_or l i zero_r) ≡ None → (vs ≡ filled (placed x l)) × (length l ≡ length (placed x l))
     unfolding placed
     placing-same e =
         let w : take i vs ++ drop i l ≡ placed x l = ap (λ t. take i vs ++ t) (drop-cons l i zero_r h) ∙ (rw (drop-cons l i zero_r h, e) at p.whole) in

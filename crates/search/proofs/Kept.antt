@@ -1,6 +1,6 @@
 -- Laws of the rising list: a fraction put into it comes to stand in it once, nothing is lost, and it rises still.
 use Rattle.ratio.specs.declared.Reason.{Reason}
-use Rattle.std.specs.Prelude.{Result, Ok}
+use Rattle.std.specs.Prelude.{Result}
 use mathlib.Core.Path.{◌≡◌, refl, sym, ap, subst, ◌∙◌}
 use mathlib.Core.Logic.{◌⊎◌, inl, inr, ∥∥₁_elim}
 use mathlib.Core.HLevel.{¬_prop}

@@ -6,6 +6,7 @@ pub mod CodeTally
 pub mod CodeValue
 pub mod CodeInsert
 pub mod CodeAnswer
+pub mod Auto
 pub mod Kept
 pub mod MeaningTry
 pub mod MeaningClear

@@ -1,5 +1,4 @@
 -- What an answered search means: the roots found are those of the polynomial, all of them, rising, in lowest terms.
-use Rattle.std.specs.Prelude.{Ok}
 use mathlib.Core.Path.{◌≡◌, refl, sym, ap, ap₂, subst, ◌∙◌}
 use mathlib.Core.Logic.{◌⊎◌, inl, inr, ∥∥₁_elim}
 use mathlib.Core.Bool.{Bool, true, false}

@@ -17,7 +17,7 @@ ghost use Rattle.search.specs.Try.{kept_if, try_one, try_row, try_all};
 ghost use Rattle.search.specs.Tally.{count_of, kept_list, Tallied, tally_of, halted_at, valued_of, clear_of};
 ghost use Rattle.search.specs.Answer.{no_roots, answer_for, started, searched_below, searched_in, roots_of};
 
-use divisors::{Found, Listing};
+use divisors::Listing;
 use ratio::{Ratio, Reason};
 use std::cmp::Ordering;
 use terms::Poly;
@@ -35,11 +35,12 @@ pub struct Roots {
 // ---- denominators
 
 // The whole number abs n / d.
+#[tactic(auto, using(crate::proofs::Auto::share_steps))]
 fn share(n: i64, d: u64) -> Ratio
     requires { Within n × (0 < d) }
     ensures { result ≡ whole_r (pos (nat_abs n / d)) }
 {
-    let q = ratio::magnitude(n) / d;
+    let q = n.unsigned_abs() / d;
     Ratio {
         num: q as i64,
         den: 1,
@@ -47,6 +48,7 @@ fn share(n: i64, d: u64) -> Ratio
 }
 
 // The common multiple of m and d.
+#[tactic(auto, using(crate::proofs::Auto::denominator_steps), unfolding(crate::specs::Clear::widened))]
 pub fn widen(m: Ratio, d: i64) -> Result<Ratio, Reason>
     ensures is { result ≡ widened m d }
 {
@@ -58,24 +60,23 @@ pub fn widen(m: Ratio, d: i64) -> Result<Ratio, Reason>
 }
 
 // The common multiple of the denominators.
+#[tactic(auto, using(crate::proofs::Auto::multiple_steps))]
 fn multiple(p: Poly) -> Result<Ratio, Reason>
     ensures { result ≡ multiple_from (terms_of p) (whole_r (pos 1)) }
 {
     let n = p.length();
     let mut m = Ratio { num: 1, den: 1 };
-    let mut i: usize = 0;
-    while i < n {
-        let c = p.coeffs[i];
-        let Ok(next) = widen(m, c.den) else {
+    for i in 0..n {
+        let Ok(next) = widen(m, p.coeffs[i].den) else {
             return Err(Reason::CoeffOverflow);
         };
         m = next;
-        i += 1;
     }
     Ok(m)
 }
 
 // The coefficient c times m, a multiple of its denominator.
+#[tactic(auto, using(crate::proofs::Auto::denominator_steps), unfolding(crate::specs::Clear::cleared_one))]
 fn clear_one(m: Ratio, c: Ratio) -> Result<Ratio, Reason>
     requires { Within m.num }
     ensures { result ≡ cleared_one m c }
@@ -94,23 +95,21 @@ struct Cleared {
     poly: Poly,
 }
 
+#[tactic(auto, using(crate::proofs::Auto::clear_steps))]
 fn clear(p: Poly, m: Ratio) -> Cleared
     requires { Within m.num }
     ensures { result ≡ clear_of (cleared_by m (terms_of p)) }
 {
     let n = p.length();
     let mut out = Poly::zero();
-    let mut i: usize = 0;
-    while i < n {
-        let c = p.coeffs[i];
-        let Ok(y) = clear_one(m, c) else {
+    for i in 0..n {
+        let Ok(y) = clear_one(m, p.coeffs[i]) else {
             return Cleared {
                 fine: false,
                 poly: Poly::zero(),
             };
         };
         out.coeffs[i] = y;
-        i += 1;
     }
     out.len = n;
     Cleared {
@@ -122,33 +121,29 @@ fn clear(p: Poly, m: Ratio) -> Cleared
 // ---- zero roots
 
 // How many zeros stand at the bottom.
+#[tactic(auto, using(crate::proofs::Auto::zeros_steps))]
 fn zeros_of(p: Poly) -> usize
     ensures { result ≡ zeros (terms_of p) }
 {
     let n = p.length();
-    let mut i: usize = 0;
-    while i < n {
-        let c = p.coeffs[i];
-        if c.num != 0 {
+    for i in 0..n {
+        if p.coeffs[i].num != 0 {
             return i;
         }
-        i += 1;
     }
-    i
+    n
 }
 
 // The polynomial without its first k coefficients.
+#[tactic(auto, using(crate::proofs::Auto::strip_steps))]
 fn strip(p: Poly, k: usize) -> Poly
     requires { k ≤ length (terms_of p) }
     ensures { result ≡ poly_of (drop k (terms_of p)) }
 {
     let n = p.length();
     let mut out = Poly::zero();
-    let mut i: usize = 0;
-    while i < n - k {
-        let c = p.coeffs[i + k];
-        out.coeffs[i] = c;
-        i += 1;
+    for i in 0..n - k {
+        out.coeffs[i] = p.coeffs[i + k];
     }
     out.len = n - k;
     out
@@ -156,21 +151,15 @@ fn strip(p: Poly, k: usize) -> Poly
 
 // ---- a rising list
 
-// Two fractions, the smaller first; or one that stands there already.
-#[derive(Clone, Copy)]
-enum Pair {
-    Both { low: Ratio, high: Ratio },
-    Repeat,
-}
-
-fn turn(x: Ratio, a: Ratio) -> Pair
+// Two fractions, the smaller first; none where x stands there already.
+fn turn(x: Ratio, a: Ratio) -> Option<(Ratio, Ratio)>
     ensures { result ≡ turned x a }
 {
     match ratio::compare(x, a) {
-        Ok(Ordering::Less) => Pair::Both { low: x, high: a },
-        Ok(Ordering::Equal) => Pair::Repeat,
-        Ok(Ordering::Greater) => Pair::Both { low: a, high: x },
-        Err(_) => Pair::Repeat,
+        Ok(Ordering::Less) => Some((x, a)),
+        Ok(Ordering::Equal) => None,
+        Ok(Ordering::Greater) => Some((a, x)),
+        Err(_) => None,
     }
 }
 
@@ -185,6 +174,7 @@ struct Tally {
 }
 
 // x put in its place: the smaller stays, the larger is carried on. A repeat is dropped.
+#[tactic(auto, using(crate::proofs::Auto::insert_steps))]
 fn insert(t: Tally, x: Ratio) -> Tally
     requires { Tallied t }
     ensures { result ≡ tally_of (fine (count_of t) (inserted x (kept_list t))) }
@@ -195,10 +185,8 @@ fn insert(t: Tally, x: Ratio) -> Tally
     }
     let mut values = t.values;
     let mut carried = x;
-    let mut i: usize = 0;
-    while i < n {
-        let a = values[i];
-        let Pair::Both { low, high } = turn(carried, a) else {
+    for i in 0..n {
+        let Some((low, high)) = turn(carried, values[i]) else {
             return Tally {
                 fine: true,
                 values,
@@ -209,7 +197,6 @@ fn insert(t: Tally, x: Ratio) -> Tally
         };
         values[i] = low;
         carried = high;
-        i += 1;
     }
     values[n] = carried;
     Tally {
@@ -242,6 +229,7 @@ fn over(steps: u64) -> Valued
 }
 
 // The value at x, as `eval_poly_i64_at_ratio` takes it; the steps are counted on.
+#[tactic(auto, using(crate::proofs::Auto::value_steps))]
 fn evaluate(p: Poly, x: Ratio, steps: u64) -> Valued
     requires { steps ≤ 9007199254740992 }
     ensures { result ≡ valued_of (valued plain (terms_of p) x (whole_r (pos 1)) zero_r steps) }
@@ -250,10 +238,8 @@ fn evaluate(p: Poly, x: Ratio, steps: u64) -> Valued
     let mut sum = Ratio { num: 0, den: 1 };
     let mut power = Ratio { num: 1, den: 1 };
     let mut count = steps;
-    let mut i: usize = 0;
-    while i < n {
-        let c = p.coeffs[i];
-        let Ok(t) = ratio::checked_mul(c, power) else {
+    for i in 0..n {
+        let Ok(t) = ratio::checked_mul(p.coeffs[i], power) else {
             return over(count + 1);
         };
         let Ok(s) = ratio::checked_add(sum, t) else {
@@ -265,7 +251,6 @@ fn evaluate(p: Poly, x: Ratio, steps: u64) -> Valued
         sum = s;
         power = next;
         count += 3;
-        i += 1;
     }
     Valued {
         fine: true,
@@ -288,6 +273,7 @@ fn halted(tried: u64, steps: u64) -> Tally
 }
 
 // One candidate more was tried; a root is kept.
+#[tactic(auto, using(crate::proofs::Auto::keep_steps))]
 fn keep(t: Tally, x: Ratio, root: bool, steps: u64) -> Tally
     requires { Tallied t × (t.tried ≤ 9007199254740992) }
     ensures { result ≡ tally_of (fine (record { tried = t.tried + 1; steps = steps }) (kept_if root x (kept_list t))) }
@@ -304,6 +290,7 @@ fn keep(t: Tally, x: Ratio, root: bool, steps: u64) -> Tally
 }
 
 // The candidate n / d; there is none where d is zero.
+#[tactic(auto, using(crate::proofs::Auto::try_steps))]
 fn try_one(p: Poly, n: i64, d: i64, t: Tally) -> Tally
     requires { Tallied t × (t.tried ≤ 9007199254740992) × (t.steps ≤ 9007199254740992) }
     ensures { result ≡ tally_of (try_one (terms_of p) n d (count_of t) (kept_list t)) }
@@ -318,11 +305,11 @@ fn try_one(p: Poly, n: i64, d: i64, t: Tally) -> Tally
     if !v.fine {
         return halted(t.tried + 1, v.steps);
     }
-    let value = v.value;
-    keep(t, x, value.is_zero(), v.steps)
+    keep(t, x, v.value.is_zero(), v.steps)
 }
 
 // The candidates n / d for each d of a listing.
+#[tactic(auto, using(crate::proofs::Auto::row_steps))]
 fn try_row(p: Poly, n: i64, size: u64, marks: &[u64; 1024], t: Tally) -> Tally
     requires { Tallied t × (t.tried ≤ 4503599627370496) × (t.steps ≤ 4503599627370496) }
     ensures is { result ≡ tally_of (try_row (terms_of p) n (rest size marks.now 0) (count_of t) (kept_list t)) }
@@ -330,20 +317,19 @@ fn try_row(p: Poly, n: i64, size: u64, marks: &[u64; 1024], t: Tally) -> Tally
 {
     let mut so_far = t;
     let mut at: usize = 0;
-    loop {
-        let Found::At { value, next } = divisors::next_factor(size, marks, at) else {
-            return so_far;
-        };
-        let tally = try_one(p, n, value, so_far);
+    while let Some(d) = divisors::next_factor(size, marks, at) {
+        let tally = try_one(p, n, d.value, so_far);
         if !tally.fine {
             return tally;
         }
         so_far = tally;
-        at = next;
+        at = d.next;
     }
+    so_far
 }
 
 // Every candidate of two listings, in listing order.
+#[tactic(auto, using(crate::proofs::Auto::all_steps))]
 fn try_all<'a>(
     p: Poly,
     size: u64,
@@ -357,17 +343,15 @@ fn try_all<'a>(
 {
     let mut so_far = t;
     let mut at: usize = 0;
-    loop {
-        let Found::At { value, next } = divisors::next_factor(size, marks, at) else {
-            return so_far;
-        };
-        let tally = try_row(p, value, lower, below, so_far);
+    while let Some(d) = divisors::next_factor(size, marks, at) {
+        let tally = try_row(p, d.value, lower, below, so_far);
         if !tally.fine {
             return tally;
         }
         so_far = tally;
-        at = next;
+        at = d.next;
     }
+    so_far
 }
 
 // ---- the search
@@ -388,23 +372,16 @@ pub fn no_roots(why: Reason) -> Roots
 fn answer(t: Tally) -> Roots
     ensures { result ≡ answer_for t }
 {
-    let values = t.values;
-    if t.fine {
-        Roots {
-            outcome: Ok(()),
-            values,
-            len: t.len,
-            tried: t.tried,
-            steps: t.steps,
-        }
-    } else {
-        Roots {
-            outcome: Err(Reason::CoeffOverflow),
-            values,
-            len: t.len,
-            tried: t.tried,
-            steps: t.steps,
-        }
+    Roots {
+        outcome: if t.fine {
+            Ok(())
+        } else {
+            Err(Reason::CoeffOverflow)
+        },
+        values: t.values,
+        len: t.len,
+        tried: t.tried,
+        steps: t.steps,
     }
 }
 
@@ -412,10 +389,9 @@ fn answer(t: Tally) -> Roots
 fn start(zero: bool) -> Tally
     ensures { result ≡ tally_of (fine (record { tried = 0; steps = 0 }) (started zero)) }
 {
-    let nothing = Ratio { num: 0, den: 1 };
     Tally {
         fine: true,
-        values: [nothing; 32],
+        values: [Ratio { num: 0, den: 1 }; 32],
         len: if zero { 1 } else { 0 },
         tried: 0,
         steps: 0,
@@ -423,6 +399,7 @@ fn start(zero: bool) -> Tally
 }
 
 // Coefficient i, 0/1 past the end.
+#[tactic(auto, using(crate::proofs::Auto::read_steps))]
 fn coefficient(p: Poly, i: usize) -> Ratio
     ensures { result ≡ get_or (terms_of p) i zero_r }
 {
@@ -434,36 +411,41 @@ fn coefficient(p: Poly, i: usize) -> Ratio
 }
 
 // The constant term's divisors are listed; those of the leading term come next.
+#[tactic(auto, using(crate::proofs::Auto::listing_steps))]
 fn search_below(p: Poly, zero: bool, budget: u64, first: Listing) -> Roots
     ensures { result ≡ searched_below (terms_of p) zero budget (listed first) }
 {
-    let lead = coefficient(p, terms::less_one(p.length()));
+    let lead = coefficient(p, p.length().saturating_sub(1));
     let second = divisors::integer_factors(lead.num, budget);
-    let outcome = second.outcome;
-    match outcome {
+    match second.outcome {
         Ok(()) => {
-            let above = first.marks;
-            let below = second.marks;
-            answer(try_all(p, first.size, &above, second.size, &below, start(zero)))
+            answer(try_all(
+                p,
+                first.size,
+                &first.marks,
+                second.size,
+                &second.marks,
+                start(zero),
+            ))
         }
         Err(why) => no_roots(why),
     }
 }
 
 // The roots of whole coefficients with no zero at either end.
+#[tactic(auto, using(crate::proofs::Auto::listing_steps), unfolding(crate::specs::Answer::searched_in))]
 fn search_in(p: Poly, zero: bool, budget: u64) -> Roots
     ensures { result ≡ searched_in (terms_of p) zero budget }
 {
-    let constant = coefficient(p, 0);
-    let first = divisors::integer_factors(constant.num, budget);
-    let outcome = first.outcome;
-    match outcome {
+    let first = divisors::integer_factors(coefficient(p, 0).num, budget);
+    match first.outcome {
         Ok(()) => search_below(p, zero, budget, first),
         Err(why) => no_roots(why),
     }
 }
 
 // Zero roots are stripped before the search.
+#[tactic(auto, using(crate::proofs::Auto::whole_steps))]
 fn search_whole(p: Poly, budget: u64) -> Roots
     ensures { result ≡ searched_in (drop (zeros (terms_of p)) (terms_of p)) (ltb 0 (zeros (terms_of p))) budget }
 {
@@ -471,6 +453,7 @@ fn search_whole(p: Poly, budget: u64) -> Roots
     search_in(strip(p, k), k > 0, budget)
 }
 
+#[tactic(auto, using(crate::proofs::Auto::roots_steps))]
 pub fn roots_of(p: Poly, budget: u64) -> Roots
     ensures is { result ≡ roots_of (terms_of p) budget }
 {
@@ -485,6 +468,5 @@ pub fn roots_of(p: Poly, budget: u64) -> Roots
     if !c.fine {
         return no_roots(Reason::CoeffOverflow);
     }
-    let whole = c.poly;
-    search_whole(whole, budget)
+    search_whole(c.poly, budget)
 }

@@ -2,7 +2,7 @@
 use Rattle.std.specs.Prelude.{Result, Ok, Err}
 use mathlib.Core.Path.{◌≡◌, refl, sym, ap, ◌∙◌}
 use mathlib.Core.List.{List, [], ◌∷◌, ◌++◌, append_assoc, append-nil}
-use Prim.Native.Nat.{ℕ, suc, ◌+◌, ◌-◌, ◌<◌, ◌≤◌}
+use Prim.Native.Nat.{ℕ, zero, suc, ◌+◌, ◌-◌, ◌<◌, ◌≤◌}
 use native.Mathlib.Numerals.{add-one}
 use native.Mathlib.Omega.{arith}
 use lib.ListN.{length, take, set}
@@ -10,6 +10,7 @@ use lib.Seq.{take-suc-set}
 use Rattle.ratio.specs.declared.Ratio.{Ratio}
 use Rattle.ratio.specs.declared.Reason.{Reason}
 use Rattle.ratio.specs.declared.Reason.TheVariants.{CoeffOverflow}
+use Rattle.terms.specs.declared.Answer.{Answer}
 use Rattle.terms.specs.Poly.{poly_of, trim}
 use Rattle.terms.specs.Machine.{Ran, fine, over, and_then, counted}
 use Rattle.terms.specs.Answer.{done_with, refused_with, answer_of, uncounted}
@@ -81,22 +82,34 @@ module _ (s : ℕ → Result Ratio Reason) (n : ℕ) where
       let f : k ≡ i = omega arith in
       rw f (ap answer_of (made_all (λ i k. counted k (s i)) n 0 i i out h m))
 
--- ---- steps that aren't
-module _ (s : ℕ → Result Ratio Reason) (n : ℕ) where
-  abbrev pub Uncounted : ℕ → List Ratio → Type 0
-  Uncounted i out = Made (λ i k. uncounted k (s i)) n 0 i 0 out
+-- ---- steps that aren't counted come to the same, with none made
 
-  pub uncounted-none : (out : List Ratio) → Uncounted 0 out
-  uncounted-none out = made_none (λ i k. uncounted k (s i)) n 0 out
+abbrev pub none_made : Answer → Answer
+none_made r = record { outcome = r.outcome; poly = r.poly; steps = 0 }
 
-  pub uncounted-more : (i : ℕ) (out : List Ratio) (y : Ratio) → i < n → i < length out → s i ≡ Ok y → Uncounted i out → Uncounted (i + 1) (set out i y)
-  uncounted-more i out y h k e m = made_more (λ i k. uncounted k (s i)) n 0 i 0 0 out y h k (rw e) m
+abbrev forget : Ran ℕ (List Ratio) → Ran ℕ (List Ratio)
+forget (fine k l) = fine 0 l
+forget (over k) = over 0
 
-  pub uncounted-over : (i : ℕ) (out : List Ratio) (why : Reason) → i < n → s i ≡ Err why → Uncounted i out → refused_with CoeffOverflow 0 ≡ answer_of (each (λ i k. uncounted k (s i)) n 0 0)
-  uncounted-over i out why h e m =
-      ap answer_of (made-over (λ i k. uncounted k (s i)) n 0 i 0 0 out h (rw e) m)
+forget-tail : (y : Ratio) (t : Ran ℕ (List Ratio)) → forget (and_then t (λ log ys. fine log (y ∷ ys))) ≡ and_then (forget t) (λ log ys. fine log (y ∷ ys))
+forget-tail y (fine k l) = refl
+forget-tail y (over k) = refl
 
-  pub uncounted-all : (i k : ℕ) (out : List Ratio) → k ≡ n → n ≤ i → i ≤ n → Uncounted i out → done_with (poly_of (trim (take k out))) 0 ≡ answer_of (each (λ i k. uncounted k (s i)) n 0 0)
-  uncounted-all i k out e h j m =
-      let f : k ≡ i = omega arith in
-      rw f (ap answer_of (made_all (λ i k. uncounted k (s i)) n 0 i 0 out h m))
+forget-answer : (t : Ran ℕ (List Ratio)) → none_made (answer_of t) ≡ answer_of (forget t)
+forget-answer (fine k l) = refl
+forget-answer (over k) = refl
+
+module _ (s : ℕ → Result Ratio Reason) where
+  forget-turn : (n i k : ℕ) (r : Result Ratio Reason) → ((k : ℕ) → forget (each (λ i k. counted k (s i)) n (suc i) k) ≡ each (λ i k. uncounted k (s i)) n (suc i) 0)
+      → forget (and_then (counted k r) (λ log y. and_then (each (λ i k. counted k (s i)) n (suc i) log) (λ log ys. fine log (y ∷ ys))))
+      ≡ and_then (uncounted 0 r) (λ log y. and_then (each (λ i k. uncounted k (s i)) n (suc i) log) (λ log ys. fine log (y ∷ ys)))
+  forget-turn n i k (Ok y) h = forget-tail y _ ∙ ap (λ (t : Ran ℕ (List Ratio)). and_then t (λ log ys. fine log (y ∷ ys))) (h (suc k))
+  forget-turn n i k (Err why) h = refl
+
+  forget-each : (n i k : ℕ) → forget (each (λ i k. counted k (s i)) n i k) ≡ each (λ i k. uncounted k (s i)) n i 0
+  unfolding each
+  forget-each zero i k = refl
+  forget-each (suc n) i k = forget-turn n i k (s i) (forget-each n (suc i))
+
+  pub uncounted-is : (n : ℕ) → none_made (answer_of (each (λ i k. counted k (s i)) n 0 0)) ≡ answer_of (each (λ i k. uncounted k (s i)) n 0 0)
+  uncounted-is n = forget-answer _ ∙ ap answer_of (forget-each n 0 0)

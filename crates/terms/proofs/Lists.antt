@@ -51,11 +51,8 @@ module _ {X : Type 0} (n : ℕ) (l : List X) (i a : ℕ) (d e r : X) (h : a ≡ 
       let k : a ≤ i = ltb-false i a f in
       let m : length (take n l) ≤ i = omega arith in
       q k ∙ sym (get_or-eq_default (take n l) e m)
+  -- the coefficients in use are as many as their number says
 
-  pub used-terms : r ≡ get_or (take n l) i e
-  used-terms = used-by (ltb i a) refl
-
--- the coefficients in use are as many as their number says
 pub take-terms : {X : Type 0} (n : ℕ) (l : List X) (k : ℕ) → k ≡ length (take n l) → take k l ≡ take n l
 take-terms n [] k e = take-nil k ∙ sym (take-nil n)
 take-terms zero (x ∷ l) k e = rw e

@@ -4,3 +4,4 @@ pub mod Machine
 pub mod Work
 pub mod Answer
 pub mod Meaning
+pub mod Made

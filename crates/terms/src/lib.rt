@@ -3,13 +3,15 @@
 // The crate `poly` stands in front of this and makes the test once.
 #![tactic(auto)]
 
-ghost use Rattle.std.specs.Prelude.{◌≡◌, List, [], ℕ, ◌+◌, ◌-◌, ◌<◌, ◌≤◌, max, ℤ, pos, length, take};
+ghost use Rattle.std.specs.Prelude.{◌≡◌, List, [], ℕ, ◌+◌, ◌-◌, ◌<◌, ◌≤◌, ℤ, pos, length, take, get_or};
 ghost use Rattle.ratio.specs.Refusal.{zero_r};
+ghost use Rattle.ratio.specs.Step.{mul_of, neg_of};
 ghost use Rattle.ratio.specs.declared.Ratio.{Ratio};
 ghost use Rattle.terms.specs.Poly.{terms_of, poly_of, trim};
 ghost use Rattle.terms.specs.Pairs.{pairs};
 ghost use Rattle.terms.specs.Machine.{plus, minus, plain, step_of, whole_r};
 ghost use Rattle.terms.specs.Work.{zipped, scaled, derived, rowed};
+ghost use Rattle.terms.specs.Made.{MadeBy};
 ghost use Rattle.terms.specs.Answer.{done_with, refused_with, answer_of, op_if, negated_of, product_of, value_of, row_of, row_over, row_given};
 
 use ratio::{Ratio, Reason};
@@ -58,8 +60,15 @@ impl Poly {
     pub fn length(self) -> usize
         ensures is { result ≡ length (terms_of self) }
     {
-        let n = self.len;
-        if n < 32 { n } else { 32 }
+        self.len.min(32)
+    }
+
+    // Coefficient i where it is in use, 0/1 past the end.
+    fn term(&self, i: usize) -> Ratio
+        requires { i < 32 }
+        ensures { result ≡ get_or (terms_of self.now) i zero_r }
+    {
+        if i < self.len { self.coeffs[i] } else { nil() }
     }
 
     // How many are left once the zeros at the top are dropped.
@@ -82,10 +91,8 @@ impl Poly {
         ensures is { result ≡ poly_of (trim (terms_of self)) }
     {
         let n = self.top();
-        let mut i = n;
-        while i < 32 {
+        for i in n..32 {
             self.coeffs[i] = nil();
-            i += 1;
         }
         self.len = n;
         self
@@ -95,91 +102,53 @@ impl Poly {
     pub fn scale(self, c: Ratio) -> Answer
         ensures is { result ≡ answer_of (scaled plain (terms_of self) c 0) }
     {
-        let n = self.length();
-        let mut nums = [0i64; 32];
-        let mut dens = [1i64; 32];
-        let mut i: usize = 0;
-        while i < n {
-            let x = self.coeffs[i];
-            let Ok(y) = ratio::checked_mul(x, c) else {
-                return refused(Reason::CoeffOverflow, (i as u64) + 1);
-            };
-            let num = y.num;
-            let den = y.den;
-            nums[i] = num;
-            dens[i] = den;
-            i += 1;
-        }
-        done(joined(&nums, &dens, n), n as u64)
+        make(
+            self.length(),
+            |i: usize| -> Result<Ratio, Reason>
+                requires { i < 32 }
+                ensures { result ≡ mul_of (get_or (terms_of self) i zero_r) c }
+            { ratio::checked_mul(self.term(i), c) },
+        )
     }
 
     // Each coefficient's negative. A negation is no step.
     pub fn negate(self) -> Answer
         ensures is { result ≡ answer_of (negated_of (terms_of self)) }
     {
-        let n = self.length();
-        let mut nums = [0i64; 32];
-        let mut dens = [1i64; 32];
-        let mut i: usize = 0;
-        while i < n {
-            let x = self.coeffs[i];
-            let Ok(y) = ratio::checked_neg(x) else {
-                return refused(Reason::CoeffOverflow, 0);
-            };
-            let num = y.num;
-            let den = y.den;
-            nums[i] = num;
-            dens[i] = den;
-            i += 1;
-        }
-        done(joined(&nums, &dens, n), 0)
+        let made = make(
+            self.length(),
+            |i: usize| -> Result<Ratio, Reason>
+                requires { i < 32 }
+                ensures { result ≡ neg_of (get_or (terms_of self) i zero_r) }
+            { ratio::checked_neg(self.term(i)) },
+        );
+        Answer { steps: 0, ..made }
     }
 
     // The derivative: coefficient i + 1 times i + 1.
     pub fn differentiate(self) -> Answer
         ensures is { result ≡ answer_of (derived plain (terms_of self) 0) }
     {
-        let n = less_one(self.length());
-        let mut nums = [0i64; 32];
-        let mut dens = [1i64; 32];
-        let mut i: usize = 0;
-        while i < n {
-            let x = self.coeffs[i + 1];
-            let Ok(y) = ratio::checked_mul(x, index(i + 1)) else {
-                return refused(Reason::CoeffOverflow, (i as u64) + 1);
-            };
-            let num = y.num;
-            let den = y.den;
-            nums[i] = num;
-            dens[i] = den;
-            i += 1;
-        }
-        done(joined(&nums, &dens, n), n as u64)
+        make(
+            less_one(self.length()),
+            |i: usize| -> Result<Ratio, Reason>
+                requires { i + 1 < 32 }
+                ensures { result ≡ mul_of (get_or (terms_of self) (i + 1) zero_r) (whole_r (pos (i + 1))) }
+            { ratio::checked_mul(self.term(i + 1), index(i + 1)) },
+        )
     }
 
     // The sum, or the difference, coefficient by coefficient.
     pub fn zip(self, other: Poly, subtract: bool) -> Answer
         ensures is { result ≡ answer_of (zipped plain (op_if subtract) (terms_of self) (terms_of other) 0) }
     {
-        let a = self.length();
-        let b = other.length();
-        let n = longer(a, b);
-        let mut nums = [0i64; 32];
-        let mut dens = [1i64; 32];
-        let mut i: usize = 0;
-        while i < n {
-            let x = self.coeffs[i];
-            let y = other.coeffs[i];
-            let Ok(s) = combine(subtract, used(x, i, a), used(y, i, b)) else {
-                return refused(Reason::CoeffOverflow, (i as u64) + 1);
-            };
-            let num = s.num;
-            let den = s.den;
-            nums[i] = num;
-            dens[i] = den;
-            i += 1;
-        }
-        done(joined(&nums, &dens, n), n as u64)
+        make(
+            self.length().max(other.length()),
+            |i: usize| -> Result<Ratio, Reason>
+                requires { i < 32 }
+                ensures { result ≡ step_of (op_if subtract) (get_or (terms_of self) i zero_r) (get_or (terms_of other) i zero_r) }
+            { combine(subtract, self.term(i), other.term(i)) },
+        )
     }
 
     // The product; zero where a factor is zero, refused where it has over 32 coefficients.
@@ -247,8 +216,7 @@ impl Poly {
         let mut sd: i64 = 1;
         let mut pn: i64 = 1;
         let mut pd: i64 = 1;
-        let mut i: usize = 0;
-        while i < n {
+        for i in 0..n {
             let c = self.coeffs[i];
             let Ok(t) = ratio::checked_mul(c, Ratio { num: pn, den: pd }) else {
                 return Err(Reason::CoeffOverflow);
@@ -263,10 +231,27 @@ impl Poly {
             sd = s.den;
             pn = p.num;
             pd = p.den;
-            i += 1;
         }
         Ok(Ratio { num: sn, den: sd })
     }
+}
+
+// n coefficients one after the other, each by one step.
+fn make<F: Fn(usize) -> Result<Ratio, Reason>>(n: usize, step: F) -> Answer
+    requires few { n ≤ 32 }
+    requires callable { (i : ℕ) → i < n → F.pre step i }
+    ensures { MadeBy (F.post step) n result }
+{
+    let mut nums = [0i64; 32];
+    let mut dens = [1i64; 32];
+    for i in 0..n {
+        let Ok(y) = step(i) else {
+            return refused(Reason::CoeffOverflow, (i as u64) + 1);
+        };
+        nums[i] = y.num;
+        dens[i] = y.den;
+    }
+    done(joined(&nums, &dens, n), n as u64)
 }
 
 pub fn done(poly: Poly, steps: u64) -> Answer
@@ -282,27 +267,14 @@ pub fn done(poly: Poly, steps: u64) -> Answer
 pub fn less_one(n: usize) -> usize
     ensures is { result ≡ n - 1 }
 {
-    if n == 0 { 0 } else { n - 1 }
+    n.saturating_sub(1)
 }
 
 // n less m, and 0 where that would fall below.
 pub fn less(n: usize, m: usize) -> usize
     ensures is { result ≡ n - m }
 {
-    if n < m { 0 } else { n - m }
-}
-
-fn longer(n: usize, m: usize) -> usize
-    ensures { result ≡ max n m }
-{
-    if n < m { m } else { n }
-}
-
-// A coefficient where it is in use, 0/1 past the end.
-fn used(c: Ratio, i: usize, n: usize) -> Ratio
-    ensures { (i < n → result ≡ c) × (n ≤ i → result ≡ zero_r) }
-{
-    if i < n { c } else { nil() }
+    n.saturating_sub(m)
 }
 
 // How many of the first n are left once the zeros at the top are dropped, whatever the denominators are.

@@ -64,28 +64,11 @@ map_more f [] x = refl
 map_more f (y ∷ l) x = ap (λ r. f y ∷ r) (map_more f l x)
 
 -- one value more of a list
-words_more : {X : Type 0} (f : X → List ℕ) (l : List X) (i : ℕ) (d : X) → i < length l
+pub words_more : {X : Type 0} (f : X → List ℕ) (l : List X) (i : ℕ) (d : X) → i < length l
     → parted (map f (take (i + 1) l)) ≡ parted (map f (take i l)) ++ next_word (eqb i 0) (f (get_or l i d))
 words_more f l i d h =
     let k : i ≤ length l = omega arith in
     rw (add-one, take-suc l i d h, map_more f (take i l) (get_or l i d), parted-more (map f (take i l)) (f (get_or l i d)), length-map, length-take-le)
-
-pub ratios-none : [] ≡ ratios_text []
-unfolding ratios_text parted
-ratios-none = refl
-
-pub floats-none : [] ≡ floats_text []
-unfolding floats_text parted
-floats-none = refl
-
-module _ (i : ℕ) where
-  pub ratios-more : (l : List Ratio) (d : Ratio) → i < length l → ratios_text (take i l) ++ next_word (eqb i 0) (ratio_text (get_or l i d)) ≡ ratios_text (take (i + 1) l)
-  unfolding ratios_text
-  ratios-more l d h = sym (words_more ratio_text l i d h)
-
-  pub floats-more : (l : List Float) (d : Float) → i < length l → floats_text (take i l) ++ next_word (eqb i 0) (float_text (get_or l i d)) ≡ floats_text (take (i + 1) l)
-  unfolding floats_text
-  floats-more l d h = sym (words_more float_text l i d h)
 
 pub poly-none : 48 ∷ [] ≡ poly_text []
 unfolding poly_text

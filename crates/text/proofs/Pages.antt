@@ -1,12 +1,16 @@
 -- Text after text on a page.
+use mathlib.Core.Bool.{Bool, true, false}
+use lib.Dec.{leb}
+use Rattle.std.proofs.lemmas.Bool.{leb-false}
+use native.Mathlib.Nat.{min-eq_left}
 use mathlib.Core.Path.{◌≡◌, refl, sym, ap, ◌∙◌}
 use mathlib.Core.List.{List, [], ◌∷◌, ◌++◌, append_assoc}
-use Prim.Native.Nat.{ℕ, suc, ◌+◌, ◌≤◌, ◌<◌}
+use Prim.Native.Nat.{ℕ, suc, ◌+◌, ◌≤◌, ◌<◌, min}
 use native.Mathlib.Omega.{arith}
 use native.Mathlib.Numerals.{add-one}
-use borrow.Author.Tests.{lt-ltb, le-ltb}
+use borrow.Author.Tests.{lt-ltb, le-ltb, leb-true}
 use lib.ListN.{length, take, drop, get_or, set, length-set, take-append-drop}
-use lib.Seq.{set_out, take-suc, take-suc-set, drop-set-lt}
+use lib.Seq.{set_out, take-suc, take-suc-set, drop-set-lt, take_all}
 use Rattle.text.specs.Page.{behind, laid, after}
 
 pub laid-append : (s t : List ℕ) (at : ℕ) (page : List ℕ) → laid (s ++ t) at page ≡ laid t (after s at page) (laid s at page)
@@ -18,6 +22,9 @@ pub after-append : (s t : List ℕ) (at : ℕ) (page : List ℕ) → after (s ++
 unfolding laid after
 after-append [] t at page = refl
 after-append (b ∷ s) t at page = after-append s t (behind at page) (set page at b)
+
+-- one text behind the other
+pub ruleset pages = (laid-append, after-append)
 
 pub laid-length : (s : List ℕ) (at : ℕ) (page : List ℕ) → length (laid s at page) ≡ length page
 unfolding laid
@@ -77,3 +84,13 @@ laid-fits (b ∷ s) at page h =
     let e : at + 1 + length s ≡ at + suc (length s) = omega arith in
     rw (lt-ltb at (length page) r.0) (laid-fits s (at + 1) (set page at b) r.1
     ∙ rw (drop-set-lt (at + 1 + length s) page at b (omega arith), e, add-one, take-suc-set page at b r.0, append_assoc))
+
+-- the first n of k are as many as there are
+take-min-by : {X : Type 0} (n k : ℕ) (l : List X) (b : Bool) → leb n k ≡ b → length l ≡ k → take (min n k) l ≡ take n l
+take-min-by n k l true h e = ap (λ (m : ℕ). take m l) (min-eq_left (leb-true n k h))
+take-min-by n k l false h e =
+    let f = leb-false n k h in
+    ap (λ (m : ℕ). take m l) (let m : min n k ≡ k = omega arith in m) ∙ take_all k l (omega arith) ∙ sym (take_all n l (omega arith))
+
+pub take-min : {X : Type 0} (n k : ℕ) (l : List X) → length l ≡ k → take (min n k) l ≡ take n l
+take-min n k l e = take-min-by n k l (leb n k) refl e

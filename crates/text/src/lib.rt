@@ -1,10 +1,10 @@
 // Numbers as text, laid on a lent page (document 01, "the job program"). What has no room on the page is left out; a caller sees that by the place.
 #![tactic(auto)]
 
-ghost use Rattle.std.specs.Prelude.{◌≡◌, [], ◌∷◌, ◌<◌, take};
+ghost use Rattle.std.specs.Prelude.{◌≡◌, List, [], ◌∷◌, ℕ, ◌<◌, map, take};
 ghost use Rattle.terms.specs.Poly.{terms_of};
 ghost use Rattle.text.specs.Page.{laid, after};
-ghost use Rattle.text.specs.Spell.{decimal_of, whole_text, ratio_text, ratios_text, poly_text, hex_digit, hex_in, hex_text, float_text, floats_text, next_word};
+ghost use Rattle.text.specs.Spell.{decimal_of, whole_text, ratio_text, ratios_text, poly_text, hex_digit, hex_in, hex_text, float_text, floats_text, next_word, parted};
 
 use ratio::Ratio;
 use terms::Poly;
@@ -28,10 +28,8 @@ pub fn write_bytes(s: &[u8], out: &mut [u8], at: usize) -> usize
     ensures page { out.new ≡ laid s.now at out.old }
 {
     let mut next = at;
-    let mut i: usize = 0;
-    while i < s.len() {
-        next = put(out, next, s[i]);
-        i += 1;
+    for b in s {
+        next = put(out, next, *b);
     }
     next
 }
@@ -76,17 +74,54 @@ pub fn write_ratio(v: Ratio, out: &mut [u8], at: usize) -> usize
     }
 }
 
-// A value of a list: all but the first have a space in front.
-fn write_next(first: bool, v: Ratio, out: &mut [u8], at: usize) -> usize
-    ensures value { result ≡ after (next_word first (ratio_text v)) at out.old }
-    ensures out_after { out.new ≡ laid (next_word first (ratio_text v)) at out.old }
+// A value that has a spelling.
+trait Word: Copy {
+    ghost spelling: { Self → List ℕ };
+
+    fn lay(self, out: &mut [u8], at: usize) -> usize
+        ensures is { result ≡ after (spelling self) at out.old }
+        ensures page { out.new ≡ laid (spelling self) at out.old };
+}
+
+impl Word for Ratio {
+    ghost spelling = { ratio_text };
+
+    fn lay(self, out: &mut [u8], at: usize) -> usize {
+        write_ratio(self, out, at)
+    }
+}
+
+impl Word for f64 {
+    ghost spelling = { float_text };
+
+    fn lay(self, out: &mut [u8], at: usize) -> usize {
+        write_float(self, out, at)
+    }
+}
+
+// A word of a list: all but the first have a space in front.
+fn write_next<W: Word>(first: bool, w: W, out: &mut [u8], at: usize) -> usize
+    ensures value { result ≡ after (next_word first (W.spelling w)) at out.old }
+    ensures out_after { out.new ≡ laid (next_word first (W.spelling w)) at out.old }
 {
     if first {
-        write_ratio(v, out, at)
+        w.lay(out, at)
     } else {
-        let next = put(out, at, 32);
-        write_ratio(v, out, next)
+        let next = put(out, at, b' ');
+        w.lay(out, next)
     }
+}
+
+// Words parted by one space.
+fn write_words<W: Word>(words: &[W], out: &mut [u8], at: usize) -> usize
+    ensures value { result ≡ after (parted (map W.spelling words.now)) at out.old }
+    ensures out_after { out.new ≡ laid (parted (map W.spelling words.now)) at out.old }
+{
+    let mut next = at;
+    for (i, w) in words.iter().enumerate() {
+        next = write_next(i == 0, *w, out, next);
+    }
+    next
 }
 
 // The first len of the values, parted by one space.
@@ -94,16 +129,7 @@ pub fn write_ratios(values: [Ratio; 32], len: usize, out: &mut [u8], at: usize) 
     ensures is { result ≡ after (ratios_text (take len values)) at out.old }
     ensures page { out.new ≡ laid (ratios_text (take len values)) at out.old }
 {
-    let mut next = at;
-    let mut i: usize = 0;
-    while i < 32 {
-        if i >= len {
-            return next;
-        }
-        next = write_next(i == 0, values[i], out, next);
-        i += 1;
-    }
-    next
+    write_words(&values[..len.min(32)], out, at)
 }
 
 // Coefficients rising; zero is `0`.
@@ -160,31 +186,10 @@ pub fn write_float(x: f64, out: &mut [u8], at: usize) -> usize
     }
 }
 
-fn write_next_float(first: bool, x: f64, out: &mut [u8], at: usize) -> usize
-    ensures value { result ≡ after (next_word first (float_text x)) at out.old }
-    ensures out_after { out.new ≡ laid (next_word first (float_text x)) at out.old }
-{
-    if first {
-        write_float(x, out, at)
-    } else {
-        let next = put(out, at, 32);
-        write_float(x, out, next)
-    }
-}
-
 // The first len of the floats, parted by one space.
 pub fn write_floats(values: [f64; 64], len: usize, out: &mut [u8], at: usize) -> usize
     ensures is { result ≡ after (floats_text (take len values)) at out.old }
     ensures page { out.new ≡ laid (floats_text (take len values)) at out.old }
 {
-    let mut next = at;
-    let mut i: usize = 0;
-    while i < 64 {
-        if i >= len {
-            return next;
-        }
-        next = write_next_float(i == 0, values[i], out, next);
-        i += 1;
-    }
-    next
+    write_words(&values[..len.min(64)], out, at)
 }

@@ -1,12 +1,11 @@
 -- `euclid::as_whole` meets its contract.
-use mathlib.Core.Path.{◌≡◌, sym, ap, ◌∙◌}
+use mathlib.Core.Path.{sym, ap, ◌∙◌}
 use mathlib.Core.Bool.{true}
 use lib.IntN.{ℤ, nat_abs}
 use mir.Facts.{to_z-of_z}
 use Rattle.ratio.specs.Refusal.{Outcome}
 use Rattle.euclid.specs.Answer.{whole_if, whole_from_if}
 use Rattle.euclid.proofs.Wholes.{whole-kept, whole-refused}
-use borrow.Author.Rules.{rules}
 use Rattle.euclid.proofs.as_whole.Goals as goal
 
 pub returns-in-Err : goal.returns-in-Err

@@ -1,17 +1,16 @@
 -- `kronecker::grow` meets its contract. The loop's invariant: the combinations and divisors that are left give the whole.
-use mir.Facts.{to_z-of_z}
-use mathlib.Core.Path.{◌≡◌, refl, ap, ◌∙◌}
-use borrow.Author.Rules.{rules}
-use Prim.Native.Nat.{◌+◌, ◌-◌, ◌<◌, ◌≤◌}
+use Rattle.std.proofs.lemmas.Grind.{common_steps}
+use Rattle.std.proofs.lemmas.Int.{to_z-of_z}
+use mathlib.Core.Path.{◌≡◌, refl, ◌∙◌}
+use Prim.Native.Nat.{◌+◌, ◌<◌}
 use native.Mathlib.Numerals.{add-one}
 use native.Mathlib.Omega.{arith}
 use lib.ListN.{length, set, length-set}
 use lib.Seq.{take-suc-set}
-use Rattle.terms.specs.Machine.{whole_r}
 use Rattle.divisors.specs.Walk.{rest}
 use Rattle.kronecker.specs.declared.Combinations.{Combinations}
-use Rattle.kronecker.specs.Combinations.{Stored, rows_of}
-use Rattle.kronecker.proofs.Rows.{Growing, growing-none, growing-step, growing-next, growing-full, growing-all, grown-full, full-yes, full-no, rows_none, rows-read, rows_long}
+use Rattle.kronecker.specs.Combinations.{rows_of}
+use Rattle.kronecker.proofs.Rows.{growing-none, growing-step, growing-next, growing-full, growing-all, grown-full, full-yes, full-no, rows_none, rows-read, rows_long}
 use Rattle.kronecker.proofs.grow.Goals as goal
 
 pub returns-then-n-ge100 : goal.returns-then-n-ge100
@@ -53,7 +52,7 @@ loop-i-preserved c =
     let few : out.len < 100 = omega arith in
     let e : length out.rows ≡ 100 = v.5.places in
     let r : Combinations = record { rows = set out.rows out.len row; len = out.len + 1 } in
-    (v.0, v.1, refl, v.3, omega arith, record { few = omega arith; places = length-set out.rows out.len row ∙ e }, growing-step (rows_of s.j s.old) (rest s.size s.marks.now 0) (s.j + 1) l.loop-i.i out r _ row c.whole.result (rest s.size s.marks.now l.loop-i.at) _ _ _ (omega (arith, rows_long s.j s.old v.1)) (c.next_factor.ensures.promise.found _ _ c.in-At.is) v.5 few (rw (add-one out.len) (take-suc-set out.rows out.len row (omega arith))) c.longer-row.ensures (rows-read s.j s.old l.loop-i.i _ (omega arith)) (c.whole.ensures ∙ ap whole_r (to_z-of_z {w = Rattle.std.proofs.Common.w64} (record { sfits = c.in-At.known_told-1-own.given.0.1 }))) v.6)
+    (v.0, v.1, refl, v.3, omega arith, record { few = omega arith; places = length-set out.rows out.len row ∙ e }, growing-step (rows_of s.j s.old) (rest s.size s.marks.now 0) (s.j + 1) l.loop-i.i out r _ row c.whole.result (rest s.size s.marks.now l.loop-i.at) _ _ _ (omega (arith, rows_long s.j s.old v.1)) (c.next_factor.ensures.promise.found c.in-Some.d c.in-Some.is) v.5 few (rw (add-one out.len) (take-suc-set out.rows out.len row (omega arith))) c.longer-row.ensures (rows-read s.j s.old l.loop-i.i _ (omega arith)) (grind (arith, common_steps, to_z-of_z)) v.6)
 
 pub returns : goal.returns
 returns c =

@@ -1,17 +1,9 @@
 -- `kronecker::grow` meets its contract. The loop's invariant: the combinations and divisors that are left give the whole.
-use mir.Facts.{to_z-of_z}
-use mathlib.Core.Path.{◌≡◌, refl, ap, ◌∙◌}
-use borrow.Author.Rules.{rules}
+use mathlib.Core.Path.{◌≡◌}
 use Prim.Native.Nat.{◌+◌, ◌-◌, ◌<◌, ◌≤◌}
-use native.Mathlib.Numerals.{add-one}
-use native.Mathlib.Omega.{arith}
-use lib.ListN.{length, set, length-set}
-use lib.Seq.{take-suc-set}
-use Rattle.terms.specs.Machine.{whole_r}
 use Rattle.divisors.specs.Walk.{rest}
-use Rattle.kronecker.specs.declared.Combinations.{Combinations}
 use Rattle.kronecker.specs.Combinations.{Stored, rows_of}
-use Rattle.kronecker.proofs.Rows.{Growing, growing-none, growing-step, growing-next, growing-full, growing-all, grown-full, full-yes, full-no, rows_none, rows-read, rows_long}
+use Rattle.kronecker.proofs.Rows.{Growing}
 use Rattle.kronecker.proofs.grow.Given as goal
 
 abbrev pub invariant-loop-i : goal.invariant-loop-i

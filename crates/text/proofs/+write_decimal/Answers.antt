@@ -1,6 +1,5 @@
 -- `text::write_decimal` meets its contract. The measure is the number itself.
-use mathlib.Core.Path.{sym, ◌∙◌}
-use Prim.Native.Nat.{ℕ, ◌<◌}
+use mathlib.Core.Path.{sym}
 use native.Mathlib.Omega.{arith}
 use Rattle.text.proofs.Pages.{lays-then, lays-as}
 use Rattle.text.proofs.Decimal.{decimal-one, decimal-more}

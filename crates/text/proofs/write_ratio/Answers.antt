@@ -1,5 +1,4 @@
 -- `text::write_ratio` meets its contract.
-use borrow.Author.Rules.{rules}
 use mathlib.Core.Path.{ap, ap₂, ◌∙◌}
 use mathlib.Core.List.{[], ◌∷◌, ◌++◌}
 use mir.Facts.{to_z-of_z}
