@@ -6,7 +6,6 @@ use Prim.Native.Nat.{ℕ, ◌≤◌}
 use native.Mathlib.Omega.{arith}
 use lib.Ieee.{Float, binary64, of_bits, add, sub, eq}
 use lib.ListN.{length, take, get_or}
-use lib.Seq.{take_all}
 use Rattle.sturm.specs.Value.{horner}
 use Rattle.sturm.specs.Rows.{rows_in}
 use Rattle.bisect.specs.declared.Cut.{Cut}
@@ -23,10 +22,6 @@ pub root-first : (v : List Float) (sizes : List ℕ) (d : ℕ) (x y : Float) →
 unfolding rows_in
 root-first v [] d x y h e = absurd (omega arith)
 root-first v (n ∷ sizes) d x y h e = ap (λ (z : Float). eq z (of_bits binary64 0)) e
-
--- no more than there are
-pub take-most : (n all : ℕ) → all ≤ n → (v : List Float) → length v ≡ all → take all v ≡ take n v
-take-most n all h v e = take_all all v (omega (arith, e)) ∙ sym (take_all n v (omega (arith, e)))
 
 -- an end holds the changes of its place
 pub seen : (rows : List (List Float)) (e : End) (x : Float) → e ≡ end_of rows x → e ≡ end_of rows e.at

@@ -1,7 +1,6 @@
 -- Laws of the brackets in their array: what is in use, and one more.
-use Rattle.std.specs.Prelude.{Ok, Err}
+use Rattle.std.specs.Prelude.{Err}
 use mathlib.Core.Path.{◌≡◌, refl, sym, ap, ◌∙◌}
-use mathlib.Core.Bool.{Bool, true, false}
 use mathlib.Core.List.{List, [], ◌∷◌, ◌++◌, append_assoc}
 use Prim.Native.Nat.{ℕ, suc, ◌+◌, ◌-◌, ◌<◌, ◌≤◌}
 use native.Mathlib.Omega.{arith}
@@ -16,7 +15,7 @@ use Rattle.ratio.specs.declared.Reason.TheVariants.{TooLong}
 use Rattle.yun.specs.Got.{got, none, then_got}
 use Rattle.bisect.specs.declared.Bracket.{Bracket}
 use Rattle.bisect.specs.declared.Brackets.{Brackets}
-use Rattle.bisect.specs.Bracket.{Found, unused, holding, refused_for, brackets_of, items_of, found_from, found_in, Kept, pushed, push_if, marked}
+use Rattle.bisect.specs.Bracket.{Found, unused, holding, refused_for, brackets_of, items_of, found_from, found_in, Kept, pushed, push_if}
 
 found_back : (g : Found) → found_in (brackets_of g) ≡ g
 found_back (got l) = ap got (take-append_seam l (replicate (64 - length l) unused))
@@ -67,18 +66,6 @@ module _ (r : Brackets) (k : Kept r) where
         ap {B = Brackets} (λ (d : Brackets). record { outcome = d.outcome; items = set d.items d.len x; len = d.len + 1 }) held
         ∙ one_more (items_of r) x l
         ∙ sym q
-
-pub mark-some : (g : Found) (e : Bool) (x : Float) → e ≡ true → then_got g (λ l. pushed x x l) ≡ then_got g (λ l. marked e x l)
-mark-some g true x h = refl
-mark-some g false x h = cc
-
-then_same : (g : Found) → g ≡ then_got g got
-then_same (got l) = refl
-then_same (none why) = refl
-
-pub mark-none : (g : Found) (e : Bool) (x : Float) → e ≡ false → g ≡ then_got g (λ l. marked e x l)
-mark-none g true x h = cc
-mark-none g false x h = then_same g
 
 -- ---- what brackets in memory say of the work behind them
 

@@ -24,6 +24,7 @@ pub struct Bracket {
 }
 
 // The brackets in the order found, or why there are none.
+// A fixed array with a length beside it: the project allows no heap.
 #[derive(Clone, Copy)]
 pub struct Brackets {
     pub outcome: Result<(), Reason>,
@@ -119,7 +120,7 @@ fn end_at(values: &[f64], sizes: &[usize], x: f64) -> End
 fn within(n: usize, all: usize) -> usize
     ensures { (result ≤ all) × ((l : List Float) → length l ≡ all → take result l ≡ take n l) }
 {
-    if n < all { n } else { all }
+    n.min(all)
 }
 
 // Whether the first row is zero at x, in floats.

@@ -1,6 +1,6 @@
 -- The chain's start: the polynomial without zeros at the top and its derivative, each way it can go.
 use Rattle.ratio.specs.Refusal.{no_refusal}
-use Rattle.std.specs.Prelude.{Ok, Err}
+use Rattle.std.specs.Prelude.{Err}
 use mathlib.Core.Path.{◌≡◌, refl, sym, ap, ◌∙◌}
 use mathlib.Core.List.{List, [], ◌∷◌}
 use Prim.Native.Nat.{ℕ, ◌<◌, ◌≤◌}

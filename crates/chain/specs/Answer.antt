@@ -1,6 +1,6 @@
 -- Document 01, "choosing the form by place": an array by value of 32 polynomials. A refused chain is empty.
 use Rattle.ratio.specs.Refusal.{no_refusal}
-use Rattle.std.specs.Prelude.{◌≡◌, List, [], ◌++◌, map, ◌-◌, length, take, replicate, Ok, Err}
+use Rattle.std.specs.Prelude.{◌≡◌, List, [], ◌++◌, map, ◌-◌, length, take, replicate, Err}
 use Rattle.ratio.specs.declared.Ratio.{Ratio}
 use Rattle.ratio.specs.declared.Reason.{Reason}
 use Rattle.terms.specs.declared.Answer.{Answer}

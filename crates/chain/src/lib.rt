@@ -12,6 +12,7 @@ use ratio::Reason;
 use terms::{Answer, Poly};
 
 // The polynomials of the chain, or why there are none.
+// A fixed array with a length beside it: the project allows no heap.
 #[derive(Clone, Copy)]
 pub struct Chain {
     pub outcome: Result<(), Reason>,
@@ -40,6 +41,7 @@ fn empty() -> Chain
 }
 
 // The negated remainder of a by b.
+#[tactic(auto, using(crate::proofs::Auto::links))]
 fn next(a: Poly, b: Poly) -> Answer
     ensures { Links (next_of (terms_of a) (terms_of b)) result }
 {
@@ -79,6 +81,7 @@ fn follow(p: Poly, d: Poly) -> Chain
 }
 
 // The chain of p: p, its derivative, and then each entry the negated remainder of the two before it; of zero nothing.
+#[tactic(auto, using(crate::proofs::Auto::starts))]
 pub fn sequence(p: Poly) -> Chain
     ensures is { result ≡ chain_of (sequence_of (terms_of p)) }
 {

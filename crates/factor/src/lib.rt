@@ -16,6 +16,7 @@ use terms::{Answer, Poly};
 use yun::{Decomposition, Piece};
 
 // The content, and the factors with their multiplicities; or why there are none.
+// A fixed array with a length beside it: the project allows no heap.
 #[derive(Clone, Copy)]
 pub struct Factorization {
     pub outcome: Result<(), Reason>,

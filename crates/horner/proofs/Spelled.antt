@@ -1,4 +1,5 @@
 -- Numbers as they are spelt, read again: decimal digits and the 16 hex digits of a float's bits.
+use Rattle.std.specs.Prelude.{Some, None}
 use mathlib.Core.Path.{◌≡◌, refl, sym, ap, ◌∙◌}
 use mathlib.Core.Bool.{Bool, true, false, cond}
 use mathlib.Core.List.{List, [], ◌∷◌, ◌++◌}
@@ -12,7 +13,6 @@ use lib.Ieee.Fits.{div-fits}
 use lib.ListN.{length}
 use Rattle.ratio.specs.declared.Ratio.{Ratio}
 use Rattle.bridge.specs.Value.{value_of}
-use Rattle.tokens.specs.declared.Number.TheVariants.{Is, Nothing}
 use Rattle.tokens.specs.declared.Token.TheVariants as Tk
 use Rattle.tokens.specs.Spelling.{digit_of, number_of, bits_of, const_of, var_of, token_of}
 use Rattle.tokens.proofs.Tokens.{token-const, token-var}
@@ -37,19 +37,19 @@ hex-digit : (d : ℕ) → d < 16 → digit_of (hex_digit d) ≡ d
 hex-digit d h = ten d (λ k. ap digit_of (digit_low d k) ∙ decimal_digit d k) (λ k. ap digit_of (digit-high d k) ∙ high_digit d k h)
 
 -- one digit more at the end
-number_more : (base m n : ℕ) (s : List ℕ) (b d : ℕ) → digit_of b ≡ d → d < base → number_of base m s ≡ Is n → number_of base m (s ++ (b ∷ [])) ≡ Is (n * base + d)
+number_more : (base m n : ℕ) (s : List ℕ) (b d : ℕ) → digit_of b ≡ d → d < base → number_of base m s ≡ Some n → number_of base m (s ++ (b ∷ [])) ≡ Some (n * base + d)
 unfolding number_of
 number_more base m n [] b d e h k = let z : m ≡ n = cc in rw (e, lt-ltb d base h, z)
 number_more base m n (x ∷ s) b d e h k = go (ltb (digit_of x) base) k (number_more base (m * base + digit_of x) n s b d e h)
   where
-    go : (t : Bool) → cond t (number_of base (m * base + digit_of x) s) Nothing ≡ Is n → (number_of base (m * base + digit_of x) s ≡ Is n → number_of base (m * base + digit_of x) (s ++ (b ∷ [])) ≡ Is (n * base + d)) → cond t (number_of base (m * base + digit_of x) (s ++ (b ∷ []))) Nothing ≡ Is (n * base + d)
+    go : (t : Bool) → cond t (number_of base (m * base + digit_of x) s) None ≡ Some n → (number_of base (m * base + digit_of x) s ≡ Some n → number_of base (m * base + digit_of x) (s ++ (b ∷ [])) ≡ Some (n * base + d)) → cond t (number_of base (m * base + digit_of x) (s ++ (b ∷ []))) None ≡ Some (n * base + d)
     go true k r = r k
     go false k r = let z : ◌≡◌ {A = ℕ} 0 1 = cc in absurd (omega arith)
 
 -- ---- whole numbers
 
-hex-number : (n : ℕ) → n < 16 ^ 16 → number_of 16 0 (hex_text n) ≡ Is n
-hex-number n h = hex-every (λ k n s. number_of 16 0 s ≡ Is n) (unfold number_of in refl) (λ k n d s b r. number_more 16 0 n s (hex_digit d) d (hex-digit d b) b r) n h
+hex-number : (n : ℕ) → n < 16 ^ 16 → number_of 16 0 (hex_text n) ≡ Some n
+hex-number n h = hex-every (λ k n s. number_of 16 0 s ≡ Some n) (unfold number_of in refl) (λ k n d s b r. number_more 16 0 n s (hex_digit d) d (hex-digit d b) b r) n h
 
 headed-some : (n : ℕ) (s : List ℕ) → Headed n s → 0 < length s
 headed-some n [] h = absurd h
@@ -57,7 +57,7 @@ headed-some n (b ∷ s) h = omega arith
 
 -- ---- tokens
 
-bits : (n : ℕ) → n < 16 ^ 16 → bits_of (hex_text n) ≡ Is n
+bits : (n : ℕ) → n < 16 ^ 16 → bits_of (hex_text n) ≡ Some n
 unfolding bits_of
 bits n h = rw (eq-eqb (length (hex_text n)) 16 (hex-length n)) (hex-number n h)
 

@@ -17,6 +17,7 @@ use ratio::{Ratio, Reason};
 use terms::Poly;
 
 // How many bytes were written.
+// How many bytes of the lent page are written: the page is the caller's, in C too.
 #[derive(Clone, Copy)]
 pub struct Written {
     pub outcome: Result<(), Reason>,

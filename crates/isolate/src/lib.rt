@@ -18,6 +18,7 @@ use ratio::Reason;
 use terms::Poly;
 
 // The roots, rising, or why there are none.
+// A fixed array with a length beside it: the project allows no heap.
 #[derive(Clone, Copy)]
 pub struct Isolation {
     pub outcome: Result<(), Reason>,

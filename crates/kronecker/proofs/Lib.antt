@@ -3,3 +3,4 @@ pub mod Rows
 pub mod Repeats
 pub mod Trials
 pub mod Found
+pub mod Auto

@@ -1,5 +1,5 @@
 -- Laws of a step that is repeated until one is refused: a loop that has made the first j.
-use Rattle.ratio.specs.Refusal.{no_refusal}
+use Rattle.ratio.specs.Refusal.{no_refusal, zero_r}
 use Rattle.std.specs.Prelude.{Ok, Err}
 use mathlib.Core.Path.{◌≡◌, sym, ap, subst, ◌∙◌}
 use mathlib.Core.Bool.{true, false}
@@ -14,13 +14,12 @@ use Rattle.ratio.specs.declared.Ratio.{Ratio}
 use Rattle.ratio.specs.declared.Reason.{Reason}
 use Rattle.terms.specs.declared.Answer.{Answer}
 use Rattle.terms.specs.Poly.{terms_of}
-use Rattle.ratio.specs.Step.{new_of}
 use Rattle.terms.specs.Machine.{plus, fine, plain}
-use Rattle.terms.specs.Work.{zipped, scaled}
+use Rattle.terms.specs.Work.{zipped}
 use Rattle.terms.specs.Answer.{answer_of, value_of}
 use Rattle.kronecker.specs.declared.Basis.{Basis}
 use Rattle.kronecker.specs.Points.{point_of}
-use Rattle.kronecker.specs.Interpolation.{skip, on_outcome, on_answer, repeated, basis_of, part_of, added_part, part_from, added_from, Serves, Serving}
+use Rattle.kronecker.specs.Interpolation.{skip, on_outcome, on_answer, repeated, basis_of, part_of, added_part, added_from, Serves, Serving}
 
 -- an answer that was given goes on, another one doesn't
 pub answer-done : {X : Type 0} (a b : Answer) (x : X) (k : List Ratio → X) → b ≡ a → b.outcome ≡ no_refusal → k (terms_of b.poly) ≡ on_answer a x k
@@ -54,6 +53,10 @@ module _ (step : ℕ → List Ratio → Answer) (n : ℕ) (start : List Ratio) w
   unfolding repeated
   repeating-all j acc h s = let k : n - j ≡ 0 = omega arith in rw k at s.whole
 
+-- turn i of the sum
+abbrev pub turn : List Ratio → ℕ → ℕ → List Ratio → Answer
+turn ys n i acc = added_part acc i n (get_or ys i zero_r)
+
 -- ---- the basis of a point
 
 module _ (i n : ℕ) (b : Answer) (e : b ≡ basis_of i n) where
@@ -85,25 +88,7 @@ module _ (n : ℕ) where
 
 -- ---- one part of the sum
 
-module _ (b : Basis) (y : Ratio) where
-  pub part_none : b.fine ≡ false → skip ≡ part_from b y
-  part_none f = rw f
-
-  module _ (f : b.fine ≡ true) where
-    pub part-broken : (why : Reason) → new_of y.num b.at.num ≡ Err why → skip ≡ part_from b y
-    part-broken why s = rw (f, s)
-
-    pub part-done : (s : Ratio) → new_of y.num b.at.num ≡ Ok s → answer_of (scaled plain (terms_of b.poly) s 0) ≡ part_from b y
-    part-done s w = rw (f, w)
-
 module _ (acc : List Ratio) (b : Basis) (y : Ratio) where
   pub added-serves : (i n : ℕ) → Serves i n b → added_from acc b y ≡ added_part acc i n y
   unfolding added_part
   added-serves i n s = ap (λ (a : Answer). on_answer a skip (λ p. answer_of (zipped plain plus acc p 0))) (s.is y)
-
-  module _ (p : Answer) (e : p ≡ part_from b y) where
-    pub added_none : (why : Reason) → p.outcome ≡ Err why → skip ≡ added_from acc b y
-    added_none why o = answer-refused (part_from b y) p skip (λ p. answer_of (zipped plain plus acc p 0)) why e o
-
-    pub added-done : p.outcome ≡ no_refusal → answer_of (zipped plain plus acc (terms_of p.poly) 0) ≡ added_from acc b y
-    added-done o = answer-done (part_from b y) p skip (λ p. answer_of (zipped plain plus acc p 0)) e o

@@ -46,6 +46,7 @@ struct Combination {
     values: [Ratio; 7],
 }
 
+// A fixed array with a length beside it: the project allows no heap.
 #[derive(Clone, Copy)]
 struct Combinations {
     rows: [Combination; 100],
@@ -80,6 +81,7 @@ fn whole(n: i64) -> Ratio
     Ratio { num: n, den: 1 }
 }
 
+#[tactic(auto, using(crate::proofs::Auto::point_steps), unfolding(crate::specs::Points::point_of))]
 fn point(i: usize) -> Ratio
     ensures { result ≡ point_of i }
 {
@@ -113,17 +115,16 @@ fn and(a: bool, b: bool) -> bool
 }
 
 // All the values at n points are looked at, so that a refused one counts before one that isn't whole.
+#[tactic(auto, using(crate::proofs::Auto::survey_steps))]
 fn survey(f: Poly, n: usize) -> Values
     ensures { result ≡ surveyed (terms_of f) n 0 true }
 {
     let mut fine = true;
-    let mut j: usize = 0;
-    while j < n {
+    for j in 0..n {
         let Ok(v) = f.value_at(point(j)) else {
             return Values::Over;
         };
         fine = and(fine, is_whole(v));
-        j += 1;
     }
     if fine { Values::Whole } else { Values::Broken }
 }
@@ -172,7 +173,8 @@ fn push(out: Combinations, c: Combination) -> Combinations
 }
 
 // Each combination goes on with each divisor, until there are 100. Where 100 were reached before this point, none is left.
-// One loop over both, so that no row is copied into a call.
+// The loops stand in one function, so that no row is copied into a call.
+#[tactic(auto, using(crate::proofs::Auto::grow_steps))]
 fn grow(old: Combinations, j: usize, size: u64, marks: &[u64; 1024]) -> Combinations
     requires { (j < 7) × Stored old }
     ensures { Stored result × (rows_of (j + 1) result ≡ grown (rows_of j old) (rest size marks.now 0)) }
@@ -182,22 +184,17 @@ fn grow(old: Combinations, j: usize, size: u64, marks: &[u64; 1024]) -> Combinat
     if n >= 100 {
         return out;
     }
-    let mut i: usize = 0;
-    let mut at: usize = 0;
-    while i < n {
-        let m = out.len;
-        if m >= 100 {
-            return out;
+    for i in 0..n {
+        let mut at: usize = 0;
+        while let Some(d) = divisors::next_factor(size, marks, at) {
+            let m = out.len;
+            if m >= 100 {
+                return out;
+            }
+            out.rows[m] = longer(old.rows[i], j, whole(d.value));
+            out.len = m + 1;
+            at = d.next;
         }
-        let Some(d) = divisors::next_factor(size, marks, at) else {
-            i += 1;
-            at = 0;
-            continue;
-        };
-        let row = longer(old.rows[i], j, whole(d.value));
-        out.rows[m] = row;
-        out.len = m + 1;
-        at = d.next;
     }
     out
 }
@@ -224,13 +221,13 @@ fn first() -> Combinations
 }
 
 // The divisors of the values at n points, combined. Every listing is made, so that each is measured against the budget.
+#[tactic(auto, using(crate::proofs::Auto::gather_steps))]
 fn gather(f: Poly, n: usize, budget: u64) -> Gathered
     requires { n ≤ 7 }
     ensures { Stored result.combinations × (gathering_of n result ≡ gathered (terms_of f) budget n 0 ([] ∷ [])) }
 {
     let mut made = first();
-    let mut j: usize = 0;
-    while j < n {
+    for j in 0..n {
         let v = value(f, j);
         let l = divisors::integer_factors(v.num, budget);
         let o = l.outcome;
@@ -239,7 +236,6 @@ fn gather(f: Poly, n: usize, budget: u64) -> Gathered
         }
         let marks = l.marks;
         made = grow(made, j, l.size, &marks);
-        j += 1;
     }
     Gathered {
         outcome: Ok(()),
@@ -296,19 +292,18 @@ fn one() -> Poly
 }
 
 // The product of x less point j, over the n points but number i.
+#[tactic(auto, using(crate::proofs::Auto::product_steps), unfolding(crate::specs::Interpolation::basis_of))]
 fn product(i: usize, n: usize) -> Answer
     ensures { result ≡ basis_of i n }
 {
     let mut acc = one();
-    let mut j: usize = 0;
-    while j < n {
+    for j in 0..n {
         let a = basis_step(acc, i, j);
         let o = a.outcome;
         if let Err(_) = o {
             return skipped();
         }
         acc = a.poly;
-        j += 1;
     }
     terms::done(acc.normalise(), 0)
 }
@@ -323,6 +318,7 @@ fn no_basis() -> Basis
     }
 }
 
+#[tactic(auto, using(crate::proofs::Auto::basis_steps))]
 fn basis_at(i: usize, n: usize) -> Basis
     ensures { Serves i n result }
 {
@@ -343,6 +339,7 @@ fn basis_at(i: usize, n: usize) -> Basis
 }
 
 // The bases of n points.
+#[tactic(auto, using(crate::proofs::Auto::prepared_steps))]
 fn prepared(n: usize) -> Parts
     requires { n ≤ 7 }
     ensures { Serving n n result.rows }
@@ -350,10 +347,8 @@ fn prepared(n: usize) -> Parts
     let mut out = Parts {
         rows: [no_basis(); 7],
     };
-    let mut i: usize = 0;
-    while i < n {
+    for i in 0..n {
         out.rows[i] = basis_at(i, n);
-        i += 1;
     }
     out
 }
@@ -386,13 +381,13 @@ fn add_part(acc: Poly, b: Basis, y: Ratio) -> Answer
 }
 
 // The polynomial of least degree with a combination's values at the points.
+#[tactic(auto, using(crate::proofs::Auto::sum_steps), unfolding(crate::specs::Interpolation::interpolated_of))]
 fn interpolate(c: Combination, n: usize, all: Parts) -> Answer
     requires { (n ≤ 7) × Serving n n all.rows }
     ensures { result ≡ interpolated_of (take n c.values) n }
 {
     let mut acc = Poly::zero();
-    let mut i: usize = 0;
-    while i < n {
+    for i in 0..n {
         let y = c.values[i];
         let b = all.rows[i];
         let a = add_part(acc, b, y);
@@ -401,7 +396,6 @@ fn interpolate(c: Combination, n: usize, all: Parts) -> Answer
             return skipped();
         }
         acc = a.poly;
-        i += 1;
     }
     terms::done(acc.normalise(), 0)
 }
@@ -429,22 +423,21 @@ fn is_over(s: Split) -> bool
     }
 }
 
+#[tactic(auto, using(crate::proofs::Auto::whole_steps))]
 fn all_whole(p: Poly) -> bool
     ensures { result ≡ all_whole (terms_of p) }
 {
     let n = p.length();
-    let mut i: usize = 0;
-    while i < n {
-        let c = p.coeffs[i];
-        if !is_whole(c) {
+    for i in 0..n {
+        if !is_whole(p.coeffs[i]) {
             return false;
         }
-        i += 1;
     }
     true
 }
 
 // Whether a candidate divides f; a refused division ends the search.
+#[tactic(auto, using(crate::proofs::Auto::judge_steps))]
 fn judge(f: Poly, c: Poly) -> Split
     ensures { result ≡ judged (terms_of f) (terms_of c) }
 {
@@ -469,6 +462,7 @@ fn judge(f: Poly, c: Poly) -> Split
     }
 }
 
+#[tactic(auto, using(crate::proofs::Auto::one_steps))]
 fn try_one(f: Poly, c: Combination, n: usize, parts: Parts) -> Split
     requires { (n ≤ 7) × Serving n n parts.rows }
     ensures { result ≡ tried_of (terms_of f) n (take n c.values) }
@@ -482,25 +476,24 @@ fn try_one(f: Poly, c: Combination, n: usize, parts: Parts) -> Split
     judge(f, p)
 }
 
+#[tactic(auto, using(crate::proofs::Auto::all_steps))]
 fn try_all(f: Poly, all: Combinations, n: usize) -> Split
     requires { (n ≤ 7) × Stored all }
     ensures { result ≡ tried_from (terms_of f) n (rows_of n all) }
 {
-    let len = all.len;
     let parts = prepared(n);
-    let mut i: usize = 0;
-    while i < len {
+    for i in 0..all.len {
         let c = all.rows[i];
         let s = try_one(f, c, n, parts);
         if is_over(s) {
             return s;
         }
-        i += 1;
     }
     without(Verdict::Next)
 }
 
 // The candidates that n points give.
+#[tactic(auto, unfolding(crate::specs::Split::tried_at))]
 fn try_points(f: Poly, n: usize, budget: u64) -> Split
     requires { n ≤ 7 }
     ensures { result ≡ tried_at (terms_of f) budget n }
@@ -513,6 +506,7 @@ fn try_points(f: Poly, n: usize, budget: u64) -> Split
     }
 }
 
+#[tactic(auto, using(crate::proofs::Auto::gathered_steps))]
 fn try_gathered(f: Poly, n: usize, budget: u64) -> Split
     requires { n ≤ 7 }
     ensures { result ≡ tried_gathered (terms_of f) n (gathered (terms_of f) budget n 0 ([] ∷ [])) }
@@ -533,21 +527,20 @@ fn most(f: Poly) -> usize
     ensures { result ≡ most_of (terms_of f) }
 {
     let k = terms::less_one(f.length()) / 2;
-    if k < 6 { k } else { 6 }
+    k.min(6)
 }
 
 // A factor of f of degree at least 1, with whole coefficients, from its values at the points 0, 1, -1, 2, -2, 3, -3.
+#[tactic(auto, using(crate::proofs::Auto::split_steps))]
 pub fn try_split(f: Poly, budget: u64) -> Split
     ensures is { result ≡ try_split_of (terms_of f) budget }
 {
     let m = most(f);
-    let mut k: usize = 1;
-    while k <= m {
+    for k in 1..m + 1 {
         let s = try_points(f, k + 1, budget);
         if is_over(s) {
             return s;
         }
-        k += 1;
     }
     without(Verdict::NoSplit)
 }

@@ -1,5 +1,5 @@
 -- A run that comes to one value shows that the check answers; and once the check answers, a run that isn't refused comes to one value.
-use Rattle.std.specs.Prelude.{Ok, Err}
+use Rattle.std.specs.Prelude.{Ok, Err, Option, Some, None}
 use mathlib.Core.Path.{◌≡◌, refl, sym, ap, ◌∙◌}
 use mathlib.Core.Bool.{Bool, true, false, cond}
 use mathlib.Core.List.{List, [], ◌∷◌}
@@ -19,8 +19,6 @@ use Rattle.tokens.specs.declared.Token.TheVariants as T
 use Rattle.tokens.specs.Spelling.{token_of}
 use Rattle.tokens.specs.Words.{words_of}
 use Rattle.tokens.specs.Heights.{takes, is_other, is_malformed, is_bad, after, finish, check_from, check_of}
-use Rattle.lower.specs.declared.Whole.{Whole}
-use Rattle.lower.specs.declared.Whole.TheVariants as W
 use Rattle.lower.specs.declared.Binary.{Binary}
 use Rattle.lower.specs.declared.Unary.{Unary}
 use Rattle.lower.specs.declared.Binary.TheVariants as B
@@ -50,9 +48,9 @@ two-enough op [] m e = let z : ◌≡◌ {A = ℕ} 0 1 = cc in absurd (omega ari
 two-enough op (b ∷ []) m e = let z : ◌≡◌ {A = ℕ} 0 1 = cc in absurd (omega arith)
 two-enough op (b ∷ a ∷ l) m e = omega arith
 
-raised-enough : (w : Whole) (l m : List Poly) → bounded (raised w l) ≡ fine m → 1 ≤ length l
-raised-enough (W.Is n) l m e = one-enough (U.Pow n) l m e
-raised-enough W.Nothing l m e = let z : ◌≡◌ {A = ℕ} 0 1 = cc in absurd (omega arith)
+raised-enough : (w : Option ℕ) (l m : List Poly) → bounded (raised w l) ≡ fine m → 1 ≤ length l
+raised-enough (Some n) l m e = one-enough (U.Pow n) l m e
+raised-enough None l m e = let z : ◌≡◌ {A = ℕ} 0 1 = cc in absurd (omega arith)
 
 -- a token that isn't refused is spelled well, is no `?`, and has the values that it takes
 record Good (t : Token) (l : List Poly) : Type 0 where

@@ -1,6 +1,6 @@
 -- The first refusal in postfix order, said of the model: behind an answered check a run comes to one value, every word accepted, or a word is refused after the values before it.
 use Rattle.ratio.specs.declared.Ratio.{Ratio}
-use Rattle.std.specs.Prelude.{Result, Ok, Err}
+use Rattle.std.specs.Prelude.{Result, Ok, Err, Option, Some, None}
 use mathlib.Core.Path.{◌≡◌, refl, sym, ap, subst, ◌∙◌}
 use mathlib.Core.Bool.{Bool, true, false, cond}
 use mathlib.Core.List.{List, [], ◌∷◌, ◌++◌, append_assoc, append-nil}
@@ -27,8 +27,6 @@ use Rattle.tokens.specs.declared.Token.TheVariants as T
 use Rattle.tokens.specs.Spelling.{token_of}
 use Rattle.tokens.specs.Words.{words_of}
 use Rattle.tokens.specs.Heights.{takes, is_other, is_malformed, is_bad, after, room_of, check_from, bare, check_of}
-use Rattle.lower.specs.declared.Whole.{Whole}
-use Rattle.lower.specs.declared.Whole.TheVariants as W
 use Rattle.lower.specs.Exponent.{exponent_of}
 use Rattle.lower.specs.Stack.{Left, fine, stopped, constant_by, pushed_by, pushed, raised, applied}
 use Rattle.lower.specs.Run.{and_then, run_from, answered, unless_refused, lower_of}
@@ -65,11 +63,11 @@ variable-taken wrt i l = go (eqb i wrt) refl
     go true e = rw e (taken (eqb-true i wrt e))
     go false e = rw e (refused (other-variable (eqb-false i wrt e)))
 
-power-taken : (wrt : ℕ) (x : Float) (l : List Poly) (w : Whole) → exponent_of x ≡ w → 1 ≤ length l → Taken wrt (T.Pow x) l (raised w l)
-power-taken wrt x [] (W.Is n) e h = absurd (omega arith)
-power-taken wrt x (a ∷ l) (W.Is n) e h =
+power-taken : (wrt : ℕ) (x : Float) (l : List Poly) (w : Option ℕ) → exponent_of x ≡ w → 1 ≤ length l → Taken wrt (T.Pow x) l (raised w l)
+power-taken wrt x [] (Some n) e h = absurd (omega arith)
+power-taken wrt x (a ∷ l) (Some n) e h =
     pushed-taken wrt (T.Pow x) (a ∷ l) l (pow_of a n).outcome _ (λ d f. let z : ◌≡◌ {A = ℕ} 0 1 = cc in omega arith) (λ why d. in-power e d)
-power-taken wrt x l W.Nothing e h = refused (no-exponent e)
+power-taken wrt x l None e h = refused (no-exponent e)
 
 token-taken : (wrt : ℕ) (t : Token) (l : List Poly) → is_malformed t ≡ false → takes t ≤ length l → Taken wrt t l (applied wrt t l)
 token-taken wrt (T.Const x) l m h = constant-taken wrt x l (to_ratio x) refl

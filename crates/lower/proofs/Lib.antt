@@ -7,3 +7,4 @@ pub mod Meaning
 pub mod Room
 pub mod Halting
 pub mod Checked
+pub mod Auto

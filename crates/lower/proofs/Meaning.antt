@@ -1,6 +1,6 @@
 -- The promise, said of the model: value by value the stack is what the textbook reads.
 use Rattle.ratio.specs.declared.Ratio.{Ratio}
-use Rattle.std.specs.Prelude.{Result, Ok, Err}
+use Rattle.std.specs.Prelude.{Result, Ok, Err, Option, Some, None}
 use mathlib.Core.Path.{◌≡◌, refl, sym, ap, ap₂, ◌∙◌}
 use mathlib.Core.Bool.{Bool, true, false, cond}
 use mathlib.Core.List.{List, [], ◌∷◌}
@@ -30,8 +30,6 @@ use Rattle.tokens.specs.declared.Token.TheVariants as T
 use Rattle.tokens.specs.Spelling.{token_of}
 use Rattle.tokens.specs.Words.{words_of}
 use Rattle.tokens.specs.Heights.{check_of}
-use Rattle.lower.specs.declared.Whole.{Whole}
-use Rattle.lower.specs.declared.Whole.TheVariants as W
 use Rattle.lower.specs.declared.Binary.TheVariants as B
 use Rattle.lower.specs.declared.Unary.TheVariants as U
 use Rattle.lower.specs.Exponent.{exponent_of}
@@ -98,10 +96,10 @@ neg-fits : {l : List Poly} {m : List (List Rat)} → Match l m → Fits (one U.N
 neg-fits none = over
 neg-fits (some a p e d h) = pushed-fits (changed U.Neg a) (gives_as (changed U.Neg a) (negated-equal (reading a) p e) (neg_gives a)) h
 
-raised-fits : (w : Whole) {l : List Poly} {m : List (List Rat)} → Match l m → Fits (raised w l) (raised_to w m)
-raised-fits (W.Is n) none = over
-raised-fits (W.Is n) (some a p e d h) = pushed-fits (changed (U.Pow n) a) (gives_as (changed (U.Pow n) a) (power-equal (reading a) p n e) (pow-gives a n)) h
-raised-fits W.Nothing h = over
+raised-fits : (w : Option ℕ) {l : List Poly} {m : List (List Rat)} → Match l m → Fits (raised w l) (raised_to w m)
+raised-fits (Some n) none = over
+raised-fits (Some n) (some a p e d h) = pushed-fits (changed (U.Pow n) a) (gives_as (changed (U.Pow n) a) (power-equal (reading a) p n e) (pow-gives a n)) h
+raised-fits None h = over
 
 pub applied-fits : (wrt : ℕ) (t : Token) {l : List Poly} {m : List (List Rat)} → Match l m → Fits (applied wrt t l) (meant t m)
 applied-fits wrt (T.Const x) h = pushed-fits (constant_from x) (constant-fits (to_ratio x)) h

@@ -1,5 +1,5 @@
 -- Once the tokens are checked the limit of 16 values changes nothing: the heights that the check counts are the lengths of the stack.
-use Rattle.std.specs.Prelude.{Ok, Err}
+use Rattle.std.specs.Prelude.{Ok, Err, Option, Some, None}
 use mathlib.Core.Path.{◌≡◌, refl, sym, ap, ◌∙◌}
 use mathlib.Core.Bool.{Bool, true, false, cond}
 use mathlib.Core.List.{List, [], ◌∷◌}
@@ -19,8 +19,6 @@ use Rattle.tokens.specs.declared.Token.TheVariants as T
 use Rattle.tokens.specs.Spelling.{token_of}
 use Rattle.tokens.specs.Words.{words_of}
 use Rattle.tokens.specs.Heights.{takes, is_other, is_bad, after, check_from, bare, check_of}
-use Rattle.lower.specs.declared.Whole.{Whole}
-use Rattle.lower.specs.declared.Whole.TheVariants as W
 use Rattle.lower.specs.declared.Binary.{Binary}
 use Rattle.lower.specs.declared.Unary.{Unary}
 use Rattle.lower.specs.declared.Binary.TheVariants as B
@@ -82,9 +80,9 @@ two_sized op [] = over
 two_sized op (b ∷ []) = over
 two_sized op (b ∷ a ∷ l) = pushed-sized (combined op a b) l _ (omega arith)
 
-raised-sized : (e : Whole) (l : List Poly) → Sized (length l - 1 + 1) (raised e l)
-raised-sized (W.Is n) l = one-sized (U.Pow n) l
-raised-sized W.Nothing l = over
+raised-sized : (e : Option ℕ) (l : List Poly) → Sized (length l - 1 + 1) (raised e l)
+raised-sized (Some n) l = one-sized (U.Pow n) l
+raised-sized None l = over
 
 pub applied-sized : (wrt : ℕ) (t : Token) (l : List Poly) → Sized (length l - takes t + 1) (applied wrt t l)
 applied-sized wrt (T.Const x) l = pushed-sized (constant_from x) l _ (omega arith)

@@ -1,7 +1,7 @@
 -- What work does to the values, the top one first; and that a token does what the work that it asks for does.
 use Rattle.ratio.specs.declared.Ratio.{Ratio}
-use Rattle.std.specs.Prelude.{Result, Ok, Err}
-use mathlib.Core.Path.{◌≡◌, refl, sym, ap, ap₂, ◌∙◌}
+use Rattle.std.specs.Prelude.{Result, Ok, Err, Option, Some, None}
+use mathlib.Core.Path.{◌≡◌, refl}
 use mathlib.Core.Bool.{Bool, true, false, cond}
 use mathlib.Core.List.{List}
 use Prim.Native.Nat.{ℕ, ◌≤◌}
@@ -12,20 +12,14 @@ use Rattle.ratio.specs.declared.Reason.{Reason}
 use Rattle.ratio.specs.declared.Reason.TheVariants.{NotPolynomial}
 use Rattle.bridge.specs.Search.{to_ratio}
 use Rattle.terms.specs.declared.Poly.{Poly}
-use Rattle.terms.specs.declared.Answer.{Answer}
-use Rattle.terms.specs.Poly.{terms_of}
-use Rattle.terms.specs.Machine.{plus, minus, plain}
-use Rattle.terms.specs.Work.{zipped}
-use Rattle.terms.specs.Answer.{refused_with, answer_of, negated_of, product_of}
+use Rattle.terms.specs.Answer.{refused_with}
 use Rattle.poly.specs.declared.Gate.TheVariants.{Open}
-use Rattle.poly.specs.Door.{door_of, both, enter}
-use Rattle.poly.specs.Operations.{monomial_of, add_of, sub_of, mul_of, neg_of}
+use Rattle.poly.specs.Door.{door_of}
+use Rattle.poly.specs.Operations.{monomial_of}
 use Rattle.poly.proofs.Canonical.{open-nil}
 use Rattle.poly.proofs.Gives.{constant-gives, monomial-gives, add-gives, sub-gives, mul-gives, neg_gives, pow-gives}
 use Rattle.tokens.specs.declared.Token.{Token}
 use Rattle.tokens.specs.declared.Token.TheVariants as T
-use Rattle.lower.specs.declared.Whole.{Whole}
-use Rattle.lower.specs.declared.Whole.TheVariants as W
 use Rattle.lower.specs.declared.Binary.{Binary}
 use Rattle.lower.specs.declared.Binary.TheVariants as B
 use Rattle.lower.specs.declared.Unary.{Unary}
@@ -50,9 +44,9 @@ takes-few (Change op) = omega arith
 takes-few (Combine op) = omega arith
 takes-few (Stop why) = omega arith
 
-raised-worked : (wrt : ℕ) (e : Whole) (l : List Poly) → worked wrt (raising e) l ≡ raised e l
-raised-worked wrt (W.Is n) l = refl
-raised-worked wrt W.Nothing l = refl
+raised-worked : (wrt : ℕ) (e : Option ℕ) (l : List Poly) → worked wrt (raising e) l ≡ raised e l
+raised-worked wrt (Some n) l = refl
+raised-worked wrt None l = refl
 
 pub worked-applied : (wrt : ℕ) (t : Token) (l : List Poly) → worked wrt (work_of t) l ≡ applied wrt t l
 worked-applied wrt (T.Const x) l = refl
@@ -92,21 +86,3 @@ changed-open (U.Pow n) a = (pow-gives a n).canonical
 
 pub refused-open : (why : Reason) → door_of (refused_with why 0).poly ≡ Open
 refused-open why = open-nil
-
--- ---- behind an open door the work is the operation
-
-module _ (a b : Poly) (h : door_of a ≡ Open) (k : door_of b ≡ Open) (r : Answer) where
-  open-both : (x : Answer) → r ≡ x → r ≡ enter (both (door_of a) (door_of b)) x
-  open-both x e = e ∙ ap (λ d. enter d x) (sym (ap₂ both h k))
-
-  pub add-behind : r ≡ answer_of (zipped plain plus (terms_of a) (terms_of b) 0) → r ≡ add_of a b
-  add-behind e = open-both _ e
-
-  pub sub-behind : r ≡ answer_of (zipped plain minus (terms_of a) (terms_of b) 0) → r ≡ sub_of a b
-  sub-behind e = open-both _ e
-
-  pub mul-behind : r ≡ product_of (terms_of a) (terms_of b) → r ≡ mul_of a b
-  mul-behind e = open-both _ e
-
-pub neg-behind : (a : Poly) → door_of a ≡ Open → (r : Answer) → r ≡ answer_of (negated_of (terms_of a)) → r ≡ neg_of a
-neg-behind a h r e = e ∙ ap (λ d. enter d (answer_of (negated_of (terms_of a)))) (sym h)

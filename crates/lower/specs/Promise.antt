@@ -1,5 +1,5 @@
 -- Demand 2 for expressions (document 01, module 7): the polynomial that the textbook reads in a postfix text, which words are accepted, and which refusal is given exactly when.
-use Rattle.std.specs.Prelude.{◌≡◌, List, [], ◌∷◌, ◌++◌, ℕ, Float, Err}
+use Rattle.std.specs.Prelude.{◌≡◌, List, [], ◌∷◌, ◌++◌, ℕ, Float, Err, Option, Some, None}
 use Rattle.algebra.specs.Rational.{Rat}
 use Rattle.algebra.specs.Polynomial.{Equal, sum, negated, product, power}
 use Rattle.ratio.specs.Promise.{rat}
@@ -19,8 +19,6 @@ use Rattle.tokens.specs.declared.Token.{Token}
 use Rattle.tokens.specs.declared.Token.TheVariants as T
 use Rattle.tokens.specs.Spelling.{token_of}
 use Rattle.tokens.specs.Words.{words_of}
-use Rattle.lower.specs.declared.Whole.{Whole}
-use Rattle.lower.specs.declared.Whole.TheVariants as W
 use Rattle.lower.specs.Exponent.{exponent_of}
 
 abbrev pub on_one : (List Rat → List Rat) → List (List Rat) → List (List Rat)
@@ -32,9 +30,9 @@ on_two f [] = []
 on_two f (b ∷ []) = b ∷ []
 on_two f (b ∷ a ∷ l) = f a b ∷ l
 
-abbrev pub raised_to : Whole → List (List Rat) → List (List Rat)
-raised_to (W.Is n) l = on_one (λ a. power a n) l
-raised_to W.Nothing l = l
+abbrev pub raised_to : Option ℕ → List (List Rat) → List (List Rat)
+raised_to (Some n) l = on_one (λ a. power a n) l
+raised_to None l = l
 
 -- what a token means for the polynomials before it, the last one first; a constant is the rational that the float bridge finds
 abbrev pub meant : Token → List (List Rat) → List (List Rat)
@@ -70,7 +68,7 @@ Accepted wrt T.Add = Unit {0}
 Accepted wrt T.Sub = Unit {0}
 Accepted wrt T.Mul = Unit {0}
 Accepted wrt T.Neg = Unit {0}
-Accepted wrt (T.Pow x) = exponent_of x ≡ W.Nothing → ⊥
+Accepted wrt (T.Pow x) = exponent_of x ≡ None → ⊥
 Accepted wrt T.Other = ⊥
 Accepted wrt T.Malformed = ⊥
 
@@ -93,8 +91,8 @@ pub data Halts (wrt : ℕ) : Token → List Poly → Reason → Type 0 where
   in-difference : {a b : Poly} {l : List Poly} {why : Reason} → (sub_of a b).outcome ≡ Err why → Halts wrt T.Sub (b ∷ a ∷ l) why
   in-product : {a b : Poly} {l : List Poly} {why : Reason} → (mul_of a b).outcome ≡ Err why → Halts wrt T.Mul (b ∷ a ∷ l) why
   in-negative : {a : Poly} {l : List Poly} {why : Reason} → (neg_of a).outcome ≡ Err why → Halts wrt T.Neg (a ∷ l) why
-  no-exponent : {x : Float} {l : List Poly} → exponent_of x ≡ W.Nothing → Halts wrt (T.Pow x) l NotPolynomial
-  in-power : {x : Float} {n : ℕ} {a : Poly} {l : List Poly} {why : Reason} → exponent_of x ≡ W.Is n → (pow_of a n).outcome ≡ Err why → Halts wrt (T.Pow x) (a ∷ l) why
+  no-exponent : {x : Float} {l : List Poly} → exponent_of x ≡ None → Halts wrt (T.Pow x) l NotPolynomial
+  in-power : {x : Float} {n : ℕ} {a : Poly} {l : List Poly} {why : Reason} → exponent_of x ≡ Some n → (pow_of a n).outcome ≡ Err why → Halts wrt (T.Pow x) (a ∷ l) why
   other-operator : {l : List Poly} → Halts wrt T.Other l NotPolynomial
 
 -- the words before one come to these values, and that one is refused

@@ -1,6 +1,6 @@
 -- Document 01, module 7: what each token does to the values, the top one first. Each operation is module 3's.
 use Rattle.ratio.specs.declared.Ratio.{Ratio}
-use Rattle.std.specs.Prelude.{cond, List, [], ◌∷◌, ℕ, eqb, Float, Result, Ok, Err}
+use Rattle.std.specs.Prelude.{cond, List, [], ◌∷◌, ℕ, eqb, Float, Result, Ok, Err, Option, Some, None}
 use Rattle.ratio.specs.Refusal.{Outcome}
 use Rattle.ratio.specs.declared.Reason.{Reason}
 use Rattle.ratio.specs.declared.Reason.TheVariants.{NotPolynomial, BadInput}
@@ -11,8 +11,6 @@ use Rattle.terms.specs.Answer.{refused_with}
 use Rattle.poly.specs.Operations.{constant_of, monomial_of, add_of, sub_of, mul_of, neg_of, pow_of}
 use Rattle.tokens.specs.declared.Token.{Token}
 use Rattle.tokens.specs.declared.Token.TheVariants as T
-use Rattle.lower.specs.declared.Whole.{Whole}
-use Rattle.lower.specs.declared.Whole.TheVariants as W
 use Rattle.lower.specs.declared.Binary.{Binary}
 use Rattle.lower.specs.declared.Binary.TheVariants as B
 use Rattle.lower.specs.declared.Unary.{Unary}
@@ -60,9 +58,9 @@ two op [] = stopped BadInput
 two op (b ∷ []) = stopped BadInput
 two op (b ∷ a ∷ l) = pushed (combined op a b) l
 
-abbrev pub raised : Whole → List Poly → Left
-raised (W.Is n) l = one (U.Pow n) l
-raised W.Nothing l = stopped NotPolynomial
+abbrev pub raised : Option ℕ → List Poly → Left
+raised (Some n) l = one (U.Pow n) l
+raised None l = stopped NotPolynomial
 
 abbrev pub applied : ℕ → Token → List Poly → Left
 applied wrt (T.Const x) l = pushed (constant_from x) l

@@ -1,19 +1,17 @@
 -- Document 01, module 7: what each token asks for, and how many values that takes off the stack.
-use Rattle.std.specs.Prelude.{ℕ}
+use Rattle.std.specs.Prelude.{ℕ, Option, Some, None}
 use Rattle.ratio.specs.declared.Reason.TheVariants.{NotPolynomial, BadInput}
 use Rattle.tokens.specs.declared.Token.{Token}
 use Rattle.tokens.specs.declared.Token.TheVariants as T
-use Rattle.lower.specs.declared.Whole.{Whole}
-use Rattle.lower.specs.declared.Whole.TheVariants as W
 use Rattle.lower.specs.declared.Binary.TheVariants as B
 use Rattle.lower.specs.declared.Unary.TheVariants as U
 use Rattle.lower.specs.declared.Work.{Work}
 use Rattle.lower.specs.declared.Work.TheVariants.{Constant, Variable, Change, Combine, Stop}
 use Rattle.lower.specs.Exponent.{exponent_of}
 
-abbrev pub raising : Whole → Work
-raising (W.Is n) = Change (U.Pow n)
-raising W.Nothing = Stop NotPolynomial
+abbrev pub raising : Option ℕ → Work
+raising (Some n) = Change (U.Pow n)
+raising None = Stop NotPolynomial
 
 abbrev pub work_of : Token → Work
 work_of (T.Const x) = Constant x

@@ -18,13 +18,6 @@ use ratio::{Ratio, Reason};
 use terms::{Answer, Poly};
 use tokens::Token;
 
-// The exponent that a float is.
-#[derive(Clone, Copy)]
-enum Whole {
-    Is(usize),
-    Nothing,
-}
-
 #[derive(Clone, Copy)]
 enum Binary {
     Add,
@@ -50,21 +43,21 @@ enum Work {
 
 // ---- values
 
-// 0 to 200; -0.0 is 0, and nothing else equals any of them.
-fn exponent(x: f64) -> Whole
+// The exponent that a float is, 0 to 200; -0.0 is 0, and nothing else equals any of them.
+#[tactic(auto, unfolding(crate::specs::Exponent::exponent_of), using(crate::proofs::Auto::exponent_steps))]
+fn exponent(x: f64) -> Option<usize>
     ensures { result ≡ exponent_of x }
 {
-    let mut n: usize = 0;
-    while n <= 200 {
+    for n in 0..201 {
         if x == (n as f64) {
-            return Whole::Is(n);
+            return Some(n);
         }
-        n += 1;
     }
-    Whole::Nothing
+    None
 }
 
 // A constant as a polynomial; 0 has no coefficient.
+#[tactic(auto, using(crate::proofs::Auto::level_steps))]
 fn level(c: Ratio) -> Poly
     ensures { result ≡ poly_of (trim (c ∷ [])) }
 {
@@ -123,12 +116,12 @@ fn change(op: Unary, a: Poly) -> Answer
 
 // ---- tokens
 
-fn raise(e: Whole) -> Work
+fn raise(e: Option<usize>) -> Work
     ensures { result ≡ raising e }
 {
     match e {
-        Whole::Is(n) => Work::Change(Unary::Pow(n)),
-        Whole::Nothing => Work::Stop(Reason::NotPolynomial),
+        Some(n) => Work::Change(Unary::Pow(n)),
+        None => Work::Stop(Reason::NotPolynomial),
     }
 }
 

@@ -1,4 +1,5 @@
 -- Digits and their number: a number has one spelling without leading zeros, which is read back.
+use Rattle.std.specs.Prelude.{Option, Some, None}
 use mathlib.Core.Path.{◌≡◌, refl, sym, ap, ◌∙◌}
 use mathlib.Core.Bool.{Bool, true, false, cond}
 use mathlib.Core.List.{List, [], ◌∷◌, ◌++◌}
@@ -8,8 +9,6 @@ use native.Mathlib.Nat.{pow-le-pow_right}
 use borrow.Author.Tests.{lt-ltb, le-ltb, ne_eqb, ltb-true, ltb-false, eqb-false}
 use lib.Dec.{ltb, eqb}
 use lib.ListN.{length, get_or, length-append, get_or-append}
-use Rattle.tokens.specs.declared.Number.{Number}
-use Rattle.tokens.specs.declared.Number.TheVariants.{Is, Nothing}
 use Rattle.tokens.specs.Spelling.{digit_of, number_of, natural_of}
 use Rattle.tokens.proofs.Digits.{below}
 use Rattle.text.specs.Spell.{decimal_of}
@@ -34,11 +33,11 @@ digit-is b h = digit-cases b (ltb b 48) (ltb b 58) (ltb b 97) (ltb b 103) refl r
 
 -- ---- a digit more at the end
 
-abbrev grown : Number → ℕ → Number
-grown (Is v) b = cond (ltb (digit_of b) 10) (Is (v * 10 + digit_of b)) Nothing
-grown Nothing b = Nothing
+abbrev grown : Option ℕ → ℕ → Option ℕ
+grown (Some v) b = cond (ltb (digit_of b) 10) (Some (v * 10 + digit_of b)) None
+grown None b = None
 
-grown-chosen : (t : Bool) (x y : Number) (b : ℕ) → x ≡ grown y b → cond t x Nothing ≡ grown (cond t y Nothing) b
+grown-chosen : (t : Bool) (x y : Option ℕ) (b : ℕ) → x ≡ grown y b → cond t x None ≡ grown (cond t y None) b
 grown-chosen true x y b h = h
 grown-chosen false x y b h = refl
 
@@ -50,14 +49,14 @@ number_more (a ∷ l) n b = grown-chosen (ltb (digit_of a) 10) _ _ b (number_mor
 -- ---- what is written is read
 
 record Spelt (n : ℕ) (s : List ℕ) : Type 0 where
-  pub number : number_of 10 0 s ≡ Is n
+  pub number : number_of 10 0 s ≡ Some n
   pub some : 0 < length s
   pub head : 0 < n → get_or s 0 0 ≡ 48 → ⊥
   pub single : n ≡ 0 → length s ≡ 1
 
 spelt-one : (d : ℕ) → d < 10 → Spelt d ((48 + d) ∷ [])
 unfolding number_of
-spelt-one d h = record { number = rw (digit-of d h, lt-ltb d 10 h) (ap Is (omega arith)); some = omega arith; head = λ p e. omega arith; single = λ z. refl }
+spelt-one d h = record { number = rw (digit-of d h, lt-ltb d 10 h) (ap Some (omega arith)); some = omega arith; head = λ p e. omega arith; single = λ z. refl }
 
 spelt-more : (n d : ℕ) (s : List ℕ) → 0 < n → d < 10 → Spelt n s → Spelt (n * 10 + d) (s ++ ((48 + d) ∷ []))
 spelt-more n d s p h a = record {
@@ -73,7 +72,7 @@ natural-from [] h k f = absurd (omega arith)
 natural-from (a ∷ []) h k f = refl
 natural-from (a ∷ b ∷ l) h k f = rw (le-ltb 17 (length l) (omega arith), ne_eqb a 48 (f (omega arith)))
 
-pub natural-read : (n : ℕ) → n < 9223372036854775808 → natural_of (decimal_of n) ≡ Is n
+pub natural-read : (n : ℕ) → n < 9223372036854775808 → natural_of (decimal_of n) ≡ Some n
 natural-read n h =
     let a : Spelt n (decimal_of n) = decimal-every Spelt spelt-one spelt-more n (omega arith) in
     natural-from (decimal_of n) a.some (decimal-19 n h) (λ k e. a.head (let f : n ≡ 0 → ⊥ = λ z. omega (arith, a.single z) in omega arith) e) ∙ a.number
@@ -82,17 +81,17 @@ natural-read n h =
 
 -- what digits have to be
 record Digits (l : List ℕ) (n : ℕ) : Type 0 where
-  pub number : number_of 10 0 l ≡ Is n
+  pub number : number_of 10 0 l ≡ Some n
   pub some : 0 < length l
   pub few : length l ≤ 19
   pub head : 1 < length l → get_or l 0 0 ≡ 48 → ⊥
 
-digits-chosen : (a b : ℕ) (l : List ℕ) (n : ℕ) (t u : Bool) → ltb 17 (length l) ≡ t → eqb a 48 ≡ u → cond t Nothing (cond u Nothing (number_of 10 0 (a ∷ b ∷ l))) ≡ Is n → Digits (a ∷ b ∷ l) n
+digits-chosen : (a b : ℕ) (l : List ℕ) (n : ℕ) (t u : Bool) → ltb 17 (length l) ≡ t → eqb a 48 ≡ u → cond t None (cond u None (number_of 10 0 (a ∷ b ∷ l))) ≡ Some n → Digits (a ∷ b ∷ l) n
 digits-chosen a b l n true u e f h = let z : ◌≡◌ {A = ℕ} 0 1 = cc in absurd (omega arith)
 digits-chosen a b l n false true e f h = let z : ◌≡◌ {A = ℕ} 0 1 = cc in absurd (omega arith)
 digits-chosen a b l n false false e f h = record { number = h; some = omega arith; few = omega (arith, ltb-false 17 (length l) e); head = λ _ q. eqb-false a 48 f q }
 
-digits_of : (l : List ℕ) (n : ℕ) → natural_of l ≡ Is n → Digits l n
+digits_of : (l : List ℕ) (n : ℕ) → natural_of l ≡ Some n → Digits l n
 unfolding natural_of
 digits_of [] n h = let z : ◌≡◌ {A = ℕ} 0 1 = cc in absurd (omega arith)
 digits_of (a ∷ []) n h = record { number = h; some = omega arith; few = omega arith; head = λ k e. absurd (omega arith) }
@@ -112,25 +111,25 @@ ends [] = none
 ends (a ∷ l) = front a (ends l)
 
 -- the number before the last digit
-record Before (x : Number) (b n : ℕ) : Type 0 where
+record Before (x : Option ℕ) (b n : ℕ) : Type 0 where
   pub value : ℕ
-  pub number : x ≡ Is value
+  pub number : x ≡ Some value
   pub low : digit_of b < 10
   pub is : n ≡ value * 10 + digit_of b
 
-before-chosen : (v b n : ℕ) (t : Bool) → ltb (digit_of b) 10 ≡ t → cond t (Is (v * 10 + digit_of b)) Nothing ≡ Is n → Before (Is v) b n
+before-chosen : (v b n : ℕ) (t : Bool) → ltb (digit_of b) 10 ≡ t → cond t (Some (v * 10 + digit_of b)) None ≡ Some n → Before (Some v) b n
 before-chosen v b n true e h = record { value = v; number = refl; low = ltb-true (digit_of b) 10 e; is = cc }
 before-chosen v b n false e h = let z : ◌≡◌ {A = ℕ} 0 1 = cc in absurd (omega arith)
 
-before_of : (x : Number) (b n : ℕ) → grown x b ≡ Is n → Before x b n
-before_of (Is v) b n h = before-chosen v b n (ltb (digit_of b) 10) refl h
-before_of Nothing b n h = let z : ◌≡◌ {A = ℕ} 0 1 = cc in absurd (omega arith)
+before_of : (x : Option ℕ) (b n : ℕ) → grown x b ≡ Some n → Before x b n
+before_of (Some v) b n h = before-chosen v b n (ltb (digit_of b) 10) refl h
+before_of None b n h = let z : ◌≡◌ {A = ℕ} 0 1 = cc in absurd (omega arith)
 
 record Back (l : List ℕ) (n : ℕ) : Type 0 where
   pub text : l ≡ decimal_of n
   pub bound : n < 10 ^ length l
 
-back_one : (b n : ℕ) → Before (Is 0) b n → Back (b ∷ []) n
+back_one : (b n : ℕ) → Before (Some 0) b n → Back (b ∷ []) n
 back_one b n h =
     let z : 0 ≡ h.value = cc in
     let k : n ≡ digit_of b = omega (arith, h.is) in
@@ -152,7 +151,7 @@ back_more m b n v s f h low is k =
 back : {l : List ℕ} → Ends l → (n : ℕ) → Digits l n → Back l n
 unfolding number_of
 back none n d = absurd (omega (arith, d.some))
-back (more b none) n d = back_one b n (before_of (Is 0) b n (sym (number_more [] 0 b) ∙ d.number))
+back (more b none) n d = back_one b n (before_of (Some 0) b n (sym (number_more [] 0 b) ∙ d.number))
 back (more b (more {l = l} c e)) n d =
     let k : length (l ++ (c ∷ [])) ≡ length l + 1 = length-append l (c ∷ []) in
     let j : length ((l ++ (c ∷ [])) ++ (b ∷ [])) ≡ length (l ++ (c ∷ [])) + 1 = length-append (l ++ (c ∷ [])) (b ∷ []) in
@@ -162,5 +161,5 @@ back (more b (more {l = l} c e)) n d =
     back_more (l ++ (c ∷ [])) b n w.value (omega arith) f h w.low w.is
     (back (more c e) w.value (record { number = w.number; some = omega arith; few = omega arith; head = λ _ q. h q }))
 
-pub natural-spelt : (l : List ℕ) (n : ℕ) → natural_of l ≡ Is n → l ≡ decimal_of n
+pub natural-spelt : (l : List ℕ) (n : ℕ) → natural_of l ≡ Some n → l ≡ decimal_of n
 natural-spelt l n h = (back (ends l) n (digits_of l n h)).text

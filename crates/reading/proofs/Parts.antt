@@ -1,7 +1,7 @@
 -- A word taken apart: its sign, and what stands before and after a `/`.
 use Rattle.ratio.specs.declared.Reason.{Reason}
 use Rattle.ratio.specs.declared.Ratio.{Ratio}
-use Rattle.std.specs.Prelude.{Result, Ok, Err}
+use Rattle.std.specs.Prelude.{Result, Ok, Err, Some, None}
 use mathlib.Core.Path.{◌≡◌, refl, sym}
 use mathlib.Core.Bool.{true, false}
 use mathlib.Core.List.{List, [], ◌∷◌}
@@ -20,14 +20,13 @@ use Rattle.ratio.specs.Gcd.{gcd_of}
 use Rattle.ratio.specs.declared.Reason.TheVariants.{BadInput}
 use Rattle.tokens.specs.Spelling.{natural_of}
 use Rattle.tokens.specs.Words.{length_to}
-use Rattle.reading.specs.declared.Whole.TheVariants as W
 use Rattle.reading.specs.Numbers.{whole_of, numerator_of, denominator_of, whole_step, fraction_step, ratio_from}
 
 -- all from a place on
 pub rest-whole : (w : List ℕ) (i : ℕ) → take (length w - i) (drop i w) ≡ drop i w
 rest-whole w i = take_all (length w - i) (drop i w) (omega (arith, length-drop i w))
 
-pub numerator-none : (w : List ℕ) → length w ≡ 0 → W.Nothing ≡ numerator_of w
+pub numerator-none : (w : List ℕ) → length w ≡ 0 → None ≡ numerator_of w
 unfolding numerator_of
 numerator-none [] h = refl
 numerator-none (b ∷ l) h = absurd (omega arith)
@@ -43,7 +42,7 @@ numerator-above [] h e = absurd (omega arith)
 numerator-above (b ∷ l) h e = rw (ne_eqb b 45 e)
 
 -- a fraction's entries, as they lie in words
-pub fraction-low : (n d : ℤ) → SFits w64 d → lt_z (to_z w64 (of_z w64 d)) (pos 2) ≡ true → Err BadInput ≡ fraction_step (W.Is n) (W.Is d)
+pub fraction-low : (n d : ℤ) → SFits w64 d → lt_z (to_z w64 (of_z w64 d)) (pos 2) ≡ true → Err BadInput ≡ fraction_step (Some n) (Some d)
 fraction-low n d f t = rw (rw (to_z-of_z f) at t)
 
 module _ (n d : ℤ) (fn : SFits w64 n) (fd : SFits w64 d) (t : lt_z (to_z w64 (of_z w64 d)) (pos 2) ≡ false) {g : ℕ} (e : g ≡ gcd_of (nat_abs (to_z w64 (of_z w64 n))) (nat_abs (to_z w64 (of_z w64 d)))) where
@@ -53,10 +52,10 @@ module _ (n d : ℤ) (fn : SFits w64 n) (fd : SFits w64 d) (t : lt_z (to_z w64 (
   common : gcd_of (nat_abs n) (nat_abs d) ≡ g
   common = sym (rw (to_z-of_z fn, to_z-of_z fd) at e)
 
-  pub fraction-done : g ≡ 1 → ◌≡◌ {A = Result Ratio Reason} (Ok (record { num = to_z w64 (of_z w64 n); den = to_z w64 (of_z w64 d) })) (fraction_step (W.Is n) (W.Is d))
+  pub fraction-done : g ≡ 1 → ◌≡◌ {A = Result Ratio Reason} (Ok (record { num = to_z w64 (of_z w64 n); den = to_z w64 (of_z w64 d) })) (fraction_step (Some n) (Some d))
   fraction-done h = rw (to_z-of_z fn, to_z-of_z fd, low, common, eq-eqb g 1 h)
 
-  pub fraction-not : (g ≡ 1 → ⊥) → Err BadInput ≡ fraction_step (W.Is n) (W.Is d)
+  pub fraction-not : (g ≡ 1 → ⊥) → Err BadInput ≡ fraction_step (Some n) (Some d)
   fraction-not h = rw (low, common, ne_eqb g 1 h)
 
 -- the first part ends at a place

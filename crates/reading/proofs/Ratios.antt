@@ -1,5 +1,5 @@
 -- A fraction in lowest terms has one spelling, which is read back.
-use Rattle.std.specs.Prelude.{Ok, Err}
+use Rattle.std.specs.Prelude.{Ok, Err, Option, Some, None}
 use mathlib.Core.Path.{◌≡◌, refl, sym, ap, ap₂, ◌∙◌}
 use mathlib.Core.Bool.{Bool, true, false, not, cond, ◌&&◌}
 use mathlib.Core.List.{List, [], ◌∷◌, ◌++◌, append-nil}
@@ -22,12 +22,8 @@ use Rattle.ratio.proofs.Fractions.{and-true, no_size}
 use Rattle.ratio.proofs.Words.{pos-neg}
 use Rattle.text.specs.Spell.{decimal_of, whole_text, ratio_text}
 use Rattle.text.proofs.Decimal.{decimal-one}
-use Rattle.tokens.specs.declared.Number.{Number}
-use Rattle.tokens.specs.declared.Number.TheVariants as N
 use Rattle.tokens.specs.Spelling.{natural_of}
 use Rattle.tokens.specs.Words.{length_to}
-use Rattle.reading.specs.declared.Whole.{Whole}
-use Rattle.reading.specs.declared.Whole.TheVariants as W
 use Rattle.reading.specs.Numbers.{whole_of, numerator_of, denominator_of, whole_step, fraction_step, ratio_in, ratio_from}
 use Rattle.reading.proofs.Parts.{numerator-above}
 use Rattle.reading.proofs.Avoids.{Avoids, avoids-head, length-all, length_part, at_mark, decimal-avoids, whole-avoids}
@@ -35,10 +31,10 @@ use Rattle.reading.proofs.Naturals.{natural-read, natural-spelt}
 
 -- ---- whole numbers
 
-denominator-read : (n : ℕ) → n ≤ limit → denominator_of (decimal_of n) ≡ W.Is (pos n)
+denominator-read : (n : ℕ) → n ≤ limit → denominator_of (decimal_of n) ≡ Some (pos n)
 denominator-read n h = rw (natural-read n (omega arith), le-ltb limit n h)
 
-natural-some : (l : List ℕ) (n : ℕ) → natural_of l ≡ N.Is n → 0 < length l
+natural-some : (l : List ℕ) (n : ℕ) → natural_of l ≡ Some n → 0 < length l
 unfolding natural_of
 natural-some [] n e = let z : ◌≡◌ {A = ℕ} 0 1 = cc in absurd (omega arith)
 natural-some (b ∷ l) n e = omega arith
@@ -46,20 +42,20 @@ natural-some (b ∷ l) n e = omega arith
 decimal-some : (n : ℕ) → n ≤ limit → 0 < length (decimal_of n)
 decimal-some n h = natural-some (decimal_of n) n (natural-read n (omega arith))
 
-numerator-read : (z : ℤ) → Within z → numerator_of (whole_text z) ≡ W.Is z
+numerator-read : (z : ℤ) → Within z → numerator_of (whole_text z) ≡ Some z
 unfolding numerator_of whole_text
 numerator-read (pos n) h = sym (numerator-above (decimal_of n) (decimal-some n h) (avoids-head 45 (decimal_of n) (decimal-avoids 45 (omega arith) n) (decimal-some n h))) ∙ denominator-read n h
 numerator-read (negsuc n) h = rw (natural-read (suc n) (omega arith), le-ltb limit (suc n) h, ne_eqb (suc n) 0 (λ e. omega arith))
 
 -- a whole number that was read
-record From (neg : Bool) (x : Number) (z : ℤ) : Type 0 where
+record From (neg : Bool) (x : Option ℕ) (z : ℤ) : Type 0 where
   pub size : ℕ
-  pub number : x ≡ N.Is size
+  pub number : x ≡ Some size
   pub fits : size ≤ limit
   pub some : neg ≡ true → size ≡ 0 → ⊥
   pub is : z ≡ signed neg size
 
-from-chosen : (neg : Bool) (m : ℕ) (z : ℤ) (t u : Bool) → ltb limit m ≡ t → (neg && eqb m 0) ≡ u → cond t W.Nothing (cond u W.Nothing (W.Is (signed neg m))) ≡ W.Is z → From neg (N.Is m) z
+from-chosen : (neg : Bool) (m : ℕ) (z : ℤ) (t u : Bool) → ltb limit m ≡ t → (neg && eqb m 0) ≡ u → cond t None (cond u None (Some (signed neg m))) ≡ Some z → From neg (Some m) z
 from-chosen neg m z true u e f h = let y : ◌≡◌ {A = ℕ} 0 1 = cc in absurd (omega arith)
 from-chosen neg m z false true e f h = let y : ◌≡◌ {A = ℕ} 0 1 = cc in absurd (omega arith)
 from-chosen neg m z false false e f h = record {
@@ -70,9 +66,9 @@ from-chosen neg m z false false e f h = record {
   is = cc;
 }
 
-from-of : (neg : Bool) (x : Number) (z : ℤ) → whole_of neg x ≡ W.Is z → From neg x z
-from-of neg (N.Is m) z h = from-chosen neg m z (ltb limit m) (neg && eqb m 0) refl refl h
-from-of neg N.Nothing z h = let y : ◌≡◌ {A = ℕ} 0 1 = cc in absurd (omega arith)
+from-of : (neg : Bool) (x : Option ℕ) (z : ℤ) → whole_of neg x ≡ Some z → From neg x z
+from-of neg (Some m) z h = from-chosen neg m z (ltb limit m) (neg && eqb m 0) refl refl h
+from-of neg None z h = let y : ◌≡◌ {A = ℕ} 0 1 = cc in absurd (omega arith)
 
 record Whole-spelt (w : List ℕ) (z : ℤ) : Type 0 where
   pub text : w ≡ whole_text z
@@ -82,16 +78,16 @@ above-spelt : (l : List ℕ) (z : ℤ) → From false (natural_of l) z → Whole
 unfolding whole_text
 above-spelt l z f = record { text = natural-spelt l f.size f.number ∙ sym (ap whole_text f.is); fits = rw f.is f.fits }
 
-below-spelt : (l : List ℕ) (z : ℤ) (m : ℕ) → natural_of l ≡ N.Is m → m ≤ limit → (m ≡ 0 → ⊥) → z ≡ neg_ℤ (pos m) → Whole-spelt (45 ∷ l) z
+below-spelt : (l : List ℕ) (z : ℤ) (m : ℕ) → natural_of l ≡ Some m → m ≤ limit → (m ≡ 0 → ⊥) → z ≡ neg_ℤ (pos m) → Whole-spelt (45 ∷ l) z
 unfolding whole_text
 below-spelt l z zero e h s i = absurd (s refl)
 below-spelt l z (suc m) e h s i = record { text = ap (λ x. 45 ∷ x) (natural-spelt l (suc m) e) ∙ sym (ap whole_text i); fits = rw i h }
 
-numerator-chosen : (b : ℕ) (l : List ℕ) (z : ℤ) (t : Bool) → eqb b 45 ≡ t → cond t (whole_of true (natural_of l)) (whole_of false (natural_of (b ∷ l))) ≡ W.Is z → Whole-spelt (b ∷ l) z
+numerator-chosen : (b : ℕ) (l : List ℕ) (z : ℤ) (t : Bool) → eqb b 45 ≡ t → cond t (whole_of true (natural_of l)) (whole_of false (natural_of (b ∷ l))) ≡ Some z → Whole-spelt (b ∷ l) z
 numerator-chosen b l z true e h = let f = from-of true (natural_of l) z h in rw (eqb-true b 45 e) (below-spelt l z f.size f.number f.fits (f.some refl) f.is)
 numerator-chosen b l z false e h = above-spelt (b ∷ l) z (from-of false (natural_of (b ∷ l)) z h)
 
-numerator-spelt : (w : List ℕ) (z : ℤ) → numerator_of w ≡ W.Is z → Whole-spelt w z
+numerator-spelt : (w : List ℕ) (z : ℤ) → numerator_of w ≡ Some z → Whole-spelt w z
 unfolding numerator_of
 numerator-spelt [] z h = let y : ◌≡◌ {A = ℕ} 0 1 = cc in absurd (omega arith)
 numerator-spelt (b ∷ l) z h = numerator-chosen b l z (eqb b 45) refl h
@@ -167,13 +163,13 @@ record Step-spelt (w : List ℕ) (r : Ratio) : Type 0 where
   pub text : w ≡ ratio_text r
   pub lowest : is_lowest r ≡ true
 
-whole-step : (w : List ℕ) (x : Whole) (r : Ratio) → numerator_of w ≡ x → whole_step x ≡ Ok r → Step-spelt w r
+whole-step : (w : List ℕ) (x : Option ℤ) (r : Ratio) → numerator_of w ≡ x → whole_step x ≡ Ok r → Step-spelt w r
 unfolding ratio_text
-whole-step w (W.Is z) r e h =
+whole-step w (Some z) r e h =
     let k = numerator-spelt w z e in
     let q : ◌≡◌ {A = Ratio} (record { num = z; den = pos 1 }) r = cc in
     rw (sym q) (record { text = k.text; lowest = low-to z 1 k.fits (omega arith) (λ y. omega arith) (gcd-one (nat_abs z)) })
-whole-step w W.Nothing r e h = let y : ◌≡◌ {A = ℕ} 0 1 = cc in absurd (omega arith)
+whole-step w None r e h = let y : ◌≡◌ {A = ℕ} 0 1 = cc in absurd (omega arith)
 
 over-chosen : (n d : List ℕ) (z : ℤ) (m : ℕ) (r : Ratio) → Whole-spelt n z → d ≡ decimal_of m → m ≤ limit → (t u : Bool) → lt_z (pos m) (pos 2) ≡ t → eqb (gcd_of (nat_abs z) m) 1 ≡ u → cond t (Err BadInput) (cond u (Ok (record { num = z; den = pos m })) (Err BadInput)) ≡ Ok r → Step-spelt (n ++ (47 ∷ d)) r
 unfolding ratio_text whole_text
@@ -187,12 +183,12 @@ over-chosen n d z m r k e b false true f g h =
       lowest = low-to z m k.fits b (λ y. omega arith) (eqb-true (gcd_of (nat_abs z) m) 1 g);
     })
 
-over-step : (n d : List ℕ) (x y : Whole) (r : Ratio) → numerator_of n ≡ x → denominator_of d ≡ y → fraction_step x y ≡ Ok r → Step-spelt (n ++ (47 ∷ d)) r
-over-step n d (W.Is z) (W.Is y) r e f h =
+over-step : (n d : List ℕ) (x y : Option ℤ) (r : Ratio) → numerator_of n ≡ x → denominator_of d ≡ y → fraction_step x y ≡ Ok r → Step-spelt (n ++ (47 ∷ d)) r
+over-step n d (Some z) (Some y) r e f h =
     let k = from-of false (natural_of d) y f in
     over-chosen n d z k.size r (numerator-spelt n z e) (natural-spelt d k.size k.number) k.fits (lt_z (pos k.size) (pos 2)) (eqb (gcd_of (nat_abs z) k.size) 1) refl refl (rw k.is at h)
-over-step n d (W.Is z) W.Nothing r e f h = let y : ◌≡◌ {A = ℕ} 0 1 = cc in absurd (omega arith)
-over-step n d W.Nothing y r e f h = let y : ◌≡◌ {A = ℕ} 0 1 = cc in absurd (omega arith)
+over-step n d (Some z) None r e f h = let y : ◌≡◌ {A = ℕ} 0 1 = cc in absurd (omega arith)
+over-step n d None y r e f h = let y : ◌≡◌ {A = ℕ} 0 1 = cc in absurd (omega arith)
 
 step_from : (w n : List ℕ) (d : List ℕ) (r : Ratio) → n ++ d ≡ w → ((b : ℕ) (t : List ℕ) → d ≡ b ∷ t → b ≡ 47) → ratio_in n d ≡ Ok r → Step-spelt w r
 step_from w n [] r e m h = rw (← e, append-nil) (whole-step n (numerator_of n) r refl h)

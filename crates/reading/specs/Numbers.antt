@@ -1,7 +1,7 @@
 -- Document 01, "the job program": how one number is spelt: n or n/d in lowest terms, d at least 2, no leading zeros, `+` or `-0`; a float is 16 hex digits, a budget 1 to 65,536.
 use Rattle.ratio.specs.declared.Reason.{Reason}
 use Rattle.ratio.specs.declared.Ratio.{Ratio}
-use Rattle.std.specs.Prelude.{Bool, true, false, ◌&&◌, cond, List, [], ◌∷◌, ℕ, ltb, eqb, pos, nat_abs, take, drop, Result, Ok, Err}
+use Rattle.std.specs.Prelude.{Bool, true, false, ◌&&◌, cond, List, [], ◌∷◌, ℕ, ℤ, Float, ltb, eqb, pos, nat_abs, take, drop, Result, Ok, Err, Option, Some, None}
 use Rattle.std.specs.Int.Signed.{lt_z}
 use Rattle.std.specs.Float.{binary64}
 use Rattle.std.specs.Float.Ieee.{of_bits}
@@ -9,40 +9,34 @@ use Rattle.ratio.specs.Gcd.{gcd_of}
 use Rattle.ratio.specs.Range.{limit}
 use Rattle.ratio.specs.Step.{signed}
 use Rattle.ratio.specs.declared.Reason.TheVariants.{BadInput}
-use Rattle.tokens.specs.declared.Number.{Number}
-use Rattle.tokens.specs.declared.Number.TheVariants as N
 use Rattle.tokens.specs.Spelling.{natural_of, bits_of}
 use Rattle.tokens.specs.Words.{length_to}
-use Rattle.reading.specs.declared.Whole.{Whole}
-use Rattle.reading.specs.declared.Whole.TheVariants as W
-use Rattle.reading.specs.declared.Real.{Real}
-use Rattle.reading.specs.declared.Real.TheVariants as R
 
 -- a size at most 2^63 − 1, with its sign; zero has none
-abbrev pub whole_of : Bool → Number → Whole
-whole_of neg (N.Is m) = cond (ltb limit m) W.Nothing (cond (neg && eqb m 0) W.Nothing (W.Is (signed neg m)))
-whole_of neg N.Nothing = W.Nothing
+abbrev pub whole_of : Bool → Option ℕ → Option ℤ
+whole_of neg (Some m) = cond (ltb limit m) None (cond (neg && eqb m 0) None (Some (signed neg m)))
+whole_of neg None = None
 
 -- digits, a `-` (45) in front of what is below zero
-unfoldable pub numerator_of : List ℕ → Whole
-numerator_of [] = W.Nothing
+unfoldable pub numerator_of : List ℕ → Option ℤ
+numerator_of [] = None
 numerator_of (b ∷ l) = cond (eqb b 45) (whole_of true (natural_of l)) (whole_of false (natural_of (b ∷ l)))
 
 -- digits
-abbrev pub denominator_of : List ℕ → Whole
+abbrev pub denominator_of : List ℕ → Option ℤ
 denominator_of l = whole_of false (natural_of l)
 
-abbrev pub whole_step : Whole → Result Ratio Reason
-whole_step (W.Is n) = Ok (record { num = n; den = pos 1 })
-whole_step W.Nothing = Err BadInput
+abbrev pub whole_step : Option ℤ → Result Ratio Reason
+whole_step (Some n) = Ok (record { num = n; den = pos 1 })
+whole_step None = Err BadInput
 
 -- lowest terms, the denominator at least 2
-abbrev pub fraction_step : Whole → Whole → Result Ratio Reason
-fraction_step (W.Is n) (W.Is d) =
+abbrev pub fraction_step : Option ℤ → Option ℤ → Result Ratio Reason
+fraction_step (Some n) (Some d) =
     cond (lt_z d (pos 2)) (Err BadInput)
     (cond (eqb (gcd_of (nat_abs n) (nat_abs d)) 1) (Ok (record { num = n; den = d })) (Err BadInput))
-fraction_step (W.Is n) W.Nothing = Err BadInput
-fraction_step W.Nothing d = Err BadInput
+fraction_step (Some n) None = Err BadInput
+fraction_step None d = Err BadInput
 
 abbrev pub ratio_in : List ℕ → List ℕ → Result Ratio Reason
 ratio_in n [] = whole_step (numerator_of n)
@@ -52,16 +46,16 @@ ratio_in n (slash ∷ d) = fraction_step (numerator_of n) (denominator_of d)
 unfoldable pub ratio_from : List ℕ → Result Ratio Reason
 ratio_from w = ratio_in (take (length_to 47 w) w) (drop (length_to 47 w) w)
 
-abbrev pub real_of : Number → Real
-real_of (N.Is n) = R.Is (of_bits binary64 n)
-real_of N.Nothing = R.Nothing
+abbrev pub real_of : Option ℕ → Option Float
+real_of (Some n) = Some (of_bits binary64 n)
+real_of None = None
 
-unfoldable pub float_from : List ℕ → Real
+unfoldable pub float_from : List ℕ → Option Float
 float_from w = real_of (bits_of w)
 
-abbrev pub budget_of : Number → Number
-budget_of (N.Is n) = cond (eqb n 0) N.Nothing (cond (ltb 65536 n) N.Nothing (N.Is n))
-budget_of N.Nothing = N.Nothing
+abbrev pub budget_of : Option ℕ → Option ℕ
+budget_of (Some n) = cond (eqb n 0) None (cond (ltb 65536 n) None (Some n))
+budget_of None = None
 
-unfoldable pub budget_from : List ℕ → Number
+unfoldable pub budget_from : List ℕ → Option ℕ
 budget_from w = budget_of (natural_of w)

@@ -10,47 +10,32 @@ ghost use Rattle.reading.specs.Held.{Holds};
 
 use ratio::{Ratio, Reason};
 use terms::{Answer, Poly};
-use tokens::Number;
-
-// A whole number that is spelled.
-#[derive(Clone, Copy)]
-enum Whole {
-    Is(i64),
-    Nothing,
-}
-
-// A float that is spelled.
-#[derive(Clone, Copy)]
-pub enum Real {
-    Is(f64),
-    Nothing,
-}
 
 // ---- numbers
 
 // A size with its sign; a zero has none.
-fn signed(neg: bool, size: Number) -> Whole
+fn signed(neg: bool, size: Option<u64>) -> Option<i64>
     ensures { result ≡ whole_of neg size }
 {
     match size {
-        Number::Is(m) => if m > 9223372036854775807 {
-            Whole::Nothing
+        Some(m) => if m > 9223372036854775807 {
+            None
         } else if !neg {
-            Whole::Is(m as i64)
+            Some(m as i64)
         } else if m == 0 {
-            Whole::Nothing
+            None
         } else {
-            Whole::Is(-(m as i64))
+            Some(-(m as i64))
         },
-        Number::Nothing => Whole::Nothing,
+        None => None,
     }
 }
 
-fn numerator(word: &[u8]) -> Whole
+fn numerator(word: &[u8]) -> Option<i64>
     ensures { result ≡ numerator_of word.now }
 {
     if word.len() == 0 {
-        Whole::Nothing
+        None
     } else if word[0] == 45 {
         signed(true, tokens::natural(&word[1..]))
     } else {
@@ -58,29 +43,29 @@ fn numerator(word: &[u8]) -> Whole
     }
 }
 
-fn denominator(word: &[u8]) -> Whole
+fn denominator(word: &[u8]) -> Option<i64>
     ensures { result ≡ denominator_of word.now }
 {
     signed(false, tokens::natural(word))
 }
 
-fn integer(n: Whole) -> Result<Ratio, Reason>
+fn integer(n: Option<i64>) -> Result<Ratio, Reason>
     ensures { result ≡ whole_step n }
 {
     match n {
-        Whole::Is(num) => Ok(Ratio { num, den: 1 }),
-        Whole::Nothing => Err(Reason::BadInput),
+        Some(num) => Ok(Ratio { num, den: 1 }),
+        None => Err(Reason::BadInput),
     }
 }
 
 // Lowest terms, the denominator at least 2.
-fn fraction(n: Whole, d: Whole) -> Result<Ratio, Reason>
+fn fraction(n: Option<i64>, d: Option<i64>) -> Result<Ratio, Reason>
     ensures { result ≡ fraction_step n d }
 {
-    let Whole::Is(num) = n else {
+    let Some(num) = n else {
         return Err(Reason::BadInput);
     };
-    let Whole::Is(den) = d else {
+    let Some(den) = d else {
         return Err(Reason::BadInput);
     };
     if den < 2 {
@@ -106,28 +91,30 @@ pub fn read_ratio(word: &[u8]) -> Result<Ratio, Reason>
 }
 
 // The float whose bits 16 hex digits are.
-pub fn read_float(word: &[u8]) -> Real
+#[tactic(auto, unfolding(crate::specs::Numbers::float_from))]
+pub fn read_float(word: &[u8]) -> Option<f64>
     ensures is { result ≡ float_from word.now }
 {
     match tokens::bits(word) {
-        Number::Is(n) => Real::Is(tokens::float(n)),
-        Number::Nothing => Real::Nothing,
+        Some(n) => Some(tokens::float(n)),
+        None => None,
     }
 }
 
 // 1 to 65,536.
-pub fn read_budget(word: &[u8]) -> Number
+#[tactic(auto, unfolding(crate::specs::Numbers::budget_from))]
+pub fn read_budget(word: &[u8]) -> Option<u64>
     ensures is { result ≡ budget_from word.now }
 {
     match tokens::natural(word) {
-        Number::Is(n) => if n == 0 {
-            Number::Nothing
+        Some(n) => if n == 0 {
+            None
         } else if n > 65536 {
-            Number::Nothing
+            None
         } else {
-            Number::Is(n)
+            Some(n)
         },
-        Number::Nothing => Number::Nothing,
+        None => None,
     }
 }
 

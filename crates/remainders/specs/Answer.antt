@@ -1,5 +1,5 @@
 -- Document 01, module 4: what the work of division and of resultants answers; the steps are reported with every answer.
-use Rattle.std.specs.Prelude.{List, [], ◌∷◌, ℕ, Ok, Err}
+use Rattle.std.specs.Prelude.{List, [], ◌∷◌, ℕ, Err}
 use Rattle.ratio.specs.Refusal.{zero_r, no_refusal}
 use Rattle.ratio.specs.declared.Ratio.{Ratio}
 use Rattle.ratio.specs.declared.Reason.{Reason}

@@ -246,13 +246,11 @@ fn power(c: Ratio, k: usize) -> Number
     ensures { result ≡ number_of (powered plain c k (unit plain) 0) }
 {
     let mut r = whole(1);
-    let mut i: usize = 0;
-    while i < k {
+    for i in 0..k {
         let Ok(s) = ratio::checked_mul(r, c) else {
             return no_number((i as u64) + 1);
         };
         r = s;
-        i += 1;
     }
     worked(r, k as u64)
 }

@@ -1,5 +1,5 @@
 -- Jobs by example: document 01's own, a text of each kind that is bad and its place, and lists that are too long.
-use Rattle.std.specs.Prelude.{Ok, Err}
+use Rattle.std.specs.Prelude.{Err}
 use mathlib.Core.Path.{◌≡◌, refl}
 use Prim.Native.Nat.{ℕ}
 use Prim.Native.String.{String}

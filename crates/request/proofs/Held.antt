@@ -1,7 +1,7 @@
 -- What each line holds lies within its limits.
 use Rattle.ratio.specs.declared.Reason.{Reason}
 use Rattle.ratio.specs.declared.Ratio.{Ratio}
-use Rattle.std.specs.Prelude.{Result, Ok, Err}
+use Rattle.std.specs.Prelude.{Result, Ok, Err, Option, Some, None}
 use mathlib.Core.Path.{◌≡◌, refl, ap₂}
 use mathlib.Core.Bool.{Bool, true, false, cond}
 use mathlib.Core.List.{List}
@@ -16,12 +16,8 @@ use Rattle.ratio.specs.Refusal.{Outcome}
 use Rattle.ratio.proofs.Steps.{zero-lowest}
 use Rattle.terms.specs.declared.Answer.{Answer}
 use Rattle.terms.specs.Answer.{done_with}
-use Rattle.tokens.specs.declared.Number.{Number}
-use Rattle.tokens.specs.declared.Number.TheVariants as N
 use Rattle.tokens.specs.Spelling.{natural_of}
 use Rattle.sturm.specs.Count.{inside}
-use Rattle.reading.specs.declared.Real.{Real}
-use Rattle.reading.specs.declared.Real.TheVariants as F
 use Rattle.reading.specs.Numbers.{ratio_from, float_from, budget_of, budget_from}
 use Rattle.reading.specs.Coefficients.{read_poly}
 use Rattle.reading.specs.Promise.{CanonicalPoly}
@@ -67,19 +63,19 @@ ratio-held s c key wanted =
 abbrev Budgeted : ℕ → Type 0
 Budgeted n = (1 ≤ n) × (n ≤ 65536)
 
-budget-chosen : (m n : ℕ) (t u : Bool) → eqb m 0 ≡ t → ltb 65536 m ≡ u → cond t N.Nothing (cond u N.Nothing (N.Is m)) ≡ N.Is n → Budgeted n
+budget-chosen : (m n : ℕ) (t u : Bool) → eqb m 0 ≡ t → ltb 65536 m ≡ u → cond t None (cond u None (Some m)) ≡ Some n → Budgeted n
 budget-chosen m n true u e f h = let z : ◌≡◌ {A = ℕ} 0 1 = cc in absurd (omega arith)
 budget-chosen m n false true e f h = let z : ◌≡◌ {A = ℕ} 0 1 = cc in absurd (omega arith)
 budget-chosen m n false false e f h = let z : m ≡ n = cc in (omega (arith, eqb-false m 0 e), omega (arith, ltb-false 65536 m f))
 
-budget-number : (x : Number) (n : ℕ) → budget_of x ≡ N.Is n → Budgeted n
-budget-number (N.Is m) n h = budget-chosen m n (eqb m 0) (ltb 65536 m) refl refl h
-budget-number N.Nothing n h = let z : ◌≡◌ {A = ℕ} 0 1 = cc in absurd (omega arith)
+budget-number : (x : Option ℕ) (n : ℕ) → budget_of x ≡ Some n → Budgeted n
+budget-number (Some m) n h = budget-chosen m n (eqb m 0) (ltb 65536 m) refl refl h
+budget-number None n h = let z : ◌≡◌ {A = ℕ} 0 1 = cc in absurd (omega arith)
 
-budget-by : (s : List ℕ) (v : Cursor) (t : List ℕ) (x : Number) → budget_from t ≡ x → Budgeted (budget_by s v x).budget
+budget-by : (s : List ℕ) (v : Cursor) (t : List ℕ) (x : Option ℕ) → budget_from t ≡ x → Budgeted (budget_by s v x).budget
 unfolding budget_from
-budget-by s v t (N.Is n) e = budget-number (natural_of t) n e
-budget-by s v t N.Nothing e = (omega arith, omega arith)
+budget-by s v t (Some n) e = budget-number (natural_of t) n e
+budget-by s v t None e = (omega arith, omega arith)
 
 pub budget-held : (s : List ℕ) (c : Cursor) (key : List ℕ) (wanted : Bool) → Budgeted (budget_line_of s c key wanted).budget
 unfolding budget_line_of
@@ -92,21 +88,21 @@ budget-held s c key wanted =
 
 -- ---- floats
 
-limited-chosen : (t : Bool) (x y : Float) → cond t (F.Is x) F.Nothing ≡ F.Is y → (t ≡ true) × (x ≡ y)
+limited-chosen : (t : Bool) (x y : Float) → cond t (Some x) None ≡ Some y → (t ≡ true) × (x ≡ y)
 limited-chosen true x y h = (refl, cc)
 limited-chosen false x y h = let z : ◌≡◌ {A = ℕ} 0 1 = cc in absurd (omega arith)
 
-limited-is : (tolerance : Bool) (r : Real) (y : Float) → limited_of tolerance r ≡ F.Is y → is_limited tolerance y ≡ true
-limited-is tolerance (F.Is x) y h = let p = limited-chosen (is_limited tolerance x) x y h in rw p.1 at p.0
-limited-is tolerance F.Nothing y h = let z : ◌≡◌ {A = ℕ} 0 1 = cc in absurd (omega arith)
+limited-is : (tolerance : Bool) (r : Option Float) (y : Float) → limited_of tolerance r ≡ Some y → is_limited tolerance y ≡ true
+limited-is tolerance (Some x) y h = let p = limited-chosen (is_limited tolerance x) x y h in rw p.1 at p.0
+limited-is tolerance None y h = let z : ◌≡◌ {A = ℕ} 0 1 = cc in absurd (omega arith)
 
 pub zero-inside : inside (of_bits binary64 0) ≡ true
 unfolding of_bits le neg
 zero-inside = refl
 
-end_by : (s : List ℕ) (v : Cursor) (t : List ℕ) (r : Real) → limited_of false (float_from t) ≡ r → inside (float_by s v r).float ≡ true
-end_by s v t (F.Is x) e = limited-is false (float_from t) x e
-end_by s v t F.Nothing e = zero-inside
+end_by : (s : List ℕ) (v : Cursor) (t : List ℕ) (r : Option Float) → limited_of false (float_from t) ≡ r → inside (float_by s v r).float ≡ true
+end_by s v t (Some x) e = limited-is false (float_from t) x e
+end_by s v t None e = zero-inside
 
 pub end-held : (s : List ℕ) (c : Cursor) (key : List ℕ) (wanted : Bool) → inside (float_line_of s c key wanted false).float ≡ true
 unfolding float_line_of
@@ -115,9 +111,9 @@ end-held s c key wanted =
     chosen (λ (l : FloatLine). inside l.float ≡ true) wanted _ _ (chosen (λ (l : FloatLine). inside l.float ≡ true) v.bad _ _ zero-inside (end_by s v (value_at s v.at) (limited_of false (float_from (value_at s v.at))) refl)) zero-inside
 
 -- a tolerance, unless something is bad
-tol-by : (s : List ℕ) (v : Cursor) (t : List ℕ) (r : Real) → limited_of true (float_from t) ≡ r → (float_by s v r).cursor.bad ≡ false → is_limited true (float_by s v r).float ≡ true
-tol-by s v t (F.Is x) e h = limited-is true (float_from t) x e
-tol-by s v t F.Nothing e h = let z : ◌≡◌ {A = ℕ} 0 1 = cc in absurd (omega arith)
+tol-by : (s : List ℕ) (v : Cursor) (t : List ℕ) (r : Option Float) → limited_of true (float_from t) ≡ r → (float_by s v r).cursor.bad ≡ false → is_limited true (float_by s v r).float ≡ true
+tol-by s v t (Some x) e h = limited-is true (float_from t) x e
+tol-by s v t None e h = let z : ◌≡◌ {A = ℕ} 0 1 = cc in absurd (omega arith)
 
 tol-in : (s : List ℕ) (v : Cursor) (b : Bool) → v.bad ≡ b → (cond b (no_float v) (float_by s v (limited_of true (float_from (value_at s v.at))))).cursor.bad ≡ false → is_limited true (cond b (no_float v) (float_by s v (limited_of true (float_from (value_at s v.at))))).float ≡ true
 tol-in s v true e h = let z : ◌≡◌ {A = ℕ} 0 1 = cc in absurd (omega arith)

@@ -6,3 +6,4 @@ pub mod Made
 pub mod Examples
 pub mod Held
 pub mod Kept
+pub mod Auto

@@ -1,6 +1,6 @@
 -- Each kind of line, by the cases that the code tells apart.
 use Rattle.ratio.specs.Refusal.{no_refusal}
-use Rattle.std.specs.Prelude.{Ok, Err}
+use Rattle.std.specs.Prelude.{Ok, Err, Some, None}
 use mathlib.Core.Path.{◌≡◌, refl, sym, ap, ◌∙◌}
 use mathlib.Core.Bool.{Bool, true, false, cond}
 use mathlib.Core.List.{List, [], ◌∷◌}
@@ -13,8 +13,6 @@ use Rattle.ratio.specs.declared.Reason.{Reason}
 use Rattle.ratio.specs.declared.Reason.TheVariants as R
 use Rattle.ratio.specs.contracts.Reason as Reasons
 use Rattle.terms.specs.declared.Answer.{Answer}
-use Rattle.tokens.specs.declared.Number.TheVariants as N
-use Rattle.reading.specs.declared.Real.TheVariants as F
 use lib.Ieee.{Float}
 use Rattle.reading.specs.Numbers.{ratio_from, float_from, budget_from}
 use Rattle.reading.specs.Coefficients.{read_poly}
@@ -139,15 +137,15 @@ module _ (s : List ℕ) (v : Cursor) (b : v.bad ≡ false) (end : ℕ) (e : end 
     pub ratio-refused : {why : Reason} → ratio_from w ≡ Err why → no_ratio (stopped_at v.at) ≡ ratio_in_line s v
     ratio-refused o = ap (ratio_by s v) (sym o ∙ ap ratio_from at_value) ∙ pick-false b _ _
 
-    pub budget-done : (n : ℕ) → budget_from w ≡ N.Is n → ◌≡◌ {A = BudgetLine} (record { cursor = closed_at s end v.long; budget = n }) (budget_in s v)
+    pub budget-done : (n : ℕ) → budget_from w ≡ Some n → ◌≡◌ {A = BudgetLine} (record { cursor = closed_at s end v.long; budget = n }) (budget_in s v)
     budget-done n o = ap {B = BudgetLine} (λ m. record { cursor = closed_at s m v.long; budget = n }) e ∙ ap (budget_by s v) (sym o ∙ ap budget_from at_value) ∙ pick-false b _ _
 
-    pub budget-refused : budget_from w ≡ N.Nothing → no_budget (stopped_at v.at) ≡ budget_in s v
+    pub budget-refused : budget_from w ≡ None → no_budget (stopped_at v.at) ≡ budget_in s v
     budget-refused o = ap (budget_by s v) (sym o ∙ ap budget_from at_value) ∙ pick-false b _ _
 
     module _ (tolerance : Bool) where
-      pub float-done : (x : Float) → limited_of tolerance (float_from w) ≡ F.Is x → ◌≡◌ {A = FloatLine} (record { cursor = closed_at s end v.long; float = x }) (float_in s v tolerance)
+      pub float-done : (x : Float) → limited_of tolerance (float_from w) ≡ Some x → ◌≡◌ {A = FloatLine} (record { cursor = closed_at s end v.long; float = x }) (float_in s v tolerance)
       float-done x o = ap {B = FloatLine} (λ n. record { cursor = closed_at s n v.long; float = x }) e ∙ ap (float_by s v) (sym o ∙ ap (λ l. limited_of tolerance (float_from l)) at_value) ∙ pick-false b _ _
 
-      pub float-refused : limited_of tolerance (float_from w) ≡ F.Nothing → no_float (stopped_at v.at) ≡ float_in s v tolerance
+      pub float-refused : limited_of tolerance (float_from w) ≡ None → no_float (stopped_at v.at) ≡ float_in s v tolerance
       float-refused o = ap (float_by s v) (sym o ∙ ap (λ l. limited_of tolerance (float_from l)) at_value) ∙ pick-false b _ _

@@ -1,6 +1,6 @@
 -- Reading stays within the text.
 use Rattle.ratio.specs.declared.Ratio.{Ratio}
-use Rattle.std.specs.Prelude.{Result, Ok, Err}
+use Rattle.std.specs.Prelude.{Result, Ok, Err, Option, Some, None, Float}
 use mathlib.Core.Path.{◌≡◌, refl, sym, ap, ◌∙◌}
 use mathlib.Core.Bool.{Bool, true, false, cond}
 use mathlib.Core.List.{List, [], ◌∷◌}
@@ -16,12 +16,8 @@ use Rattle.ratio.specs.declared.Reason.TheVariants as R
 use Rattle.terms.specs.declared.Answer.{Answer}
 use Rattle.terms.specs.declared.Poly.{Poly}
 use Rattle.text.specs.Ascii.{bytes}
-use Rattle.tokens.specs.declared.Number.{Number}
-use Rattle.tokens.specs.declared.Number.TheVariants as N
 use Rattle.tokens.specs.Words.{length_to}
 use Rattle.tokens.proofs.Words.{length-bounded}
-use Rattle.reading.specs.declared.Real.{Real}
-use Rattle.reading.specs.declared.Real.TheVariants as F
 use Rattle.reading.specs.Numbers.{ratio_from, float_from, budget_from}
 use Rattle.reading.specs.Coefficients.{read_poly}
 use Rattle.reading.proofs.Places.{poly-placed}
@@ -107,13 +103,13 @@ module _ (s : List ℕ) (v : Cursor) (h : v.at ≤ length s) where
   step-within (Ok x) = closed-within s v.at v.long h
   step-within (Err why) = h
 
-  number-within : (n : Number) → (budget_by s v n).cursor.at ≤ length s
-  number-within (N.Is n) = closed-within s v.at v.long h
-  number-within N.Nothing = h
+  number-within : (n : Option ℕ) → (budget_by s v n).cursor.at ≤ length s
+  number-within (Some n) = closed-within s v.at v.long h
+  number-within None = h
 
-  real-within : (x : Real) → (float_by s v x).cursor.at ≤ length s
-  real-within (F.Is x) = closed-within s v.at v.long h
-  real-within F.Nothing = h
+  real-within : (x : Option Float) → (float_by s v x).cursor.at ≤ length s
+  real-within (Some x) = closed-within s v.at v.long h
+  real-within None = h
 
   name-within : (op : Op) → (op_by s v op).cursor.at ≤ length s
   name-within op = chosen (λ (d : OpLine). d.cursor.at ≤ length s) (is_known op) _ _ (closed-within s v.at false h) h

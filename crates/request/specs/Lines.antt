@@ -1,6 +1,6 @@
 -- Document 01, "the job program": a line is a key, `=`, a value and a newline. Read from left to right; the first thing that is bad stops it, with its place.
 use Rattle.ratio.specs.declared.Ratio.{Ratio}
-use Rattle.std.specs.Prelude.{Bool, true, false, ◌&&◌, cond, List, [], ℕ, ◌+◌, ltb, Float, length, take, drop, Result, Ok, Err}
+use Rattle.std.specs.Prelude.{Bool, true, false, ◌&&◌, cond, List, [], ℕ, ◌+◌, ltb, Float, length, take, drop, Result, Ok, Err, Option, Some, None}
 use Rattle.std.specs.Float.{binary64}
 use Rattle.std.specs.Float.Ieee.{of_bits, lt}
 use Rattle.std.specs.Float.Ieee.Scale.{finite}
@@ -10,11 +10,7 @@ use Rattle.ratio.specs.declared.Reason.TheVariants as R
 use Rattle.terms.specs.declared.Poly.{Poly}
 use Rattle.terms.specs.Poly.{poly_of}
 use Rattle.sturm.specs.Count.{inside}
-use Rattle.tokens.specs.declared.Number.{Number}
-use Rattle.tokens.specs.declared.Number.TheVariants as N
 use Rattle.tokens.specs.Words.{length_to}
-use Rattle.reading.specs.declared.Real.{Real}
-use Rattle.reading.specs.declared.Real.TheVariants as F
 use Rattle.reading.specs.Numbers.{ratio_from, float_from, budget_from}
 use Rattle.reading.specs.Coefficients.{read_poly}
 use Rattle.request.specs.declared.Cursor.{Cursor}
@@ -105,9 +101,9 @@ default_budget = 65536
 abbrev pub no_budget : Cursor → BudgetLine
 no_budget c = record { cursor = c; budget = default_budget }
 
-abbrev pub budget_by : List ℕ → Cursor → Number → BudgetLine
-budget_by s v (N.Is n) = record { cursor = closed_at s (end_of s v.at) v.long; budget = n }
-budget_by s v N.Nothing = no_budget (stopped_at v.at)
+abbrev pub budget_by : List ℕ → Cursor → Option ℕ → BudgetLine
+budget_by s v (Some n) = record { cursor = closed_at s (end_of s v.at) v.long; budget = n }
+budget_by s v None = no_budget (stopped_at v.at)
 
 abbrev pub budget_in : List ℕ → Cursor → BudgetLine
 budget_in s v = cond v.bad (no_budget v) (budget_by s v (budget_from (value_at s v.at)))
@@ -123,16 +119,16 @@ abbrev pub is_limited : Bool → Float → Bool
 is_limited true x = finite x && lt (of_bits binary64 0) x
 is_limited false x = inside x
 
-abbrev pub limited_of : Bool → Real → Real
-limited_of tolerance (F.Is x) = cond (is_limited tolerance x) (F.Is x) F.Nothing
-limited_of tolerance F.Nothing = F.Nothing
+abbrev pub limited_of : Bool → Option Float → Option Float
+limited_of tolerance (Some x) = cond (is_limited tolerance x) (Some x) None
+limited_of tolerance None = None
 
 abbrev pub no_float : Cursor → FloatLine
 no_float c = record { cursor = c; float = of_bits binary64 0 }
 
-abbrev pub float_by : List ℕ → Cursor → Real → FloatLine
-float_by s v (F.Is x) = record { cursor = closed_at s (end_of s v.at) v.long; float = x }
-float_by s v F.Nothing = no_float (stopped_at v.at)
+abbrev pub float_by : List ℕ → Cursor → Option Float → FloatLine
+float_by s v (Some x) = record { cursor = closed_at s (end_of s v.at) v.long; float = x }
+float_by s v None = no_float (stopped_at v.at)
 
 abbrev pub float_in : List ℕ → Cursor → Bool → FloatLine
 float_in s v tolerance = cond v.bad (no_float v) (float_by s v (limited_of tolerance (float_from (value_at s v.at))))

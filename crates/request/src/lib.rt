@@ -10,9 +10,7 @@ ghost use Rattle.request.specs.Promise.{Job};
 use ops::Op;
 use poly::Gate;
 use ratio::{Ratio, Reason};
-use reading::Real;
 use terms::Poly;
-use tokens::Number;
 
 // What a missing budget is.
 const DEFAULT_BUDGET: u64 = 65536;
@@ -98,15 +96,13 @@ fn starts(text: &[u8], at: usize, key: &[u8]) -> bool
     requires { at ≤ length text.now }
     ensures { result ≡ begins key.now (drop at text.now) }
 {
-    let mut i: usize = 0;
-    while i < key.len() {
+    for i in 0..key.len() {
         if at + i == text.len() {
             return false;
         }
         if text[at + i] != key[i] {
             return false;
         }
-        i += 1;
     }
     true
 }
@@ -122,6 +118,7 @@ fn is(word: &[u8], name: &[u8]) -> bool
 }
 
 // The operation on a and numbers that a word names.
+#[tactic(auto, unfolding(crate::specs::Ops::op_with_numbers, ops::specs::Op::name_of))]
 fn op_with_numbers(word: &[u8]) -> Op
     ensures { result ≡ op_with_numbers word.now }
 {
@@ -137,6 +134,7 @@ fn op_with_numbers(word: &[u8]) -> Op
 }
 
 // The operation on a alone, or on a and numbers.
+#[tactic(auto, unfolding(crate::specs::Ops::op_of_one, ops::specs::Op::name_of))]
 fn op_of_one(word: &[u8]) -> Op
     ensures { result ≡ op_of_one word.now }
 {
@@ -158,6 +156,7 @@ fn op_of_one(word: &[u8]) -> Op
 }
 
 // The operation that a word names.
+#[tactic(auto, unfolding(crate::specs::Ops::op_of, ops::specs::Op::name_of))]
 fn op_of(word: &[u8]) -> Op
     ensures { result ≡ op_of word.now }
 {
@@ -259,6 +258,7 @@ fn standing(at: usize, long: bool) -> Cursor
 }
 
 // Behind the key of the line that starts here.
+#[tactic(auto, using(crate::proofs::Auto::open_steps))]
 fn open(text: &[u8], c: Cursor, key: &[u8]) -> Cursor
     requires { c.at ≤ length text.now }
     ensures { result ≡ opened_at text.now key.now c }
@@ -287,6 +287,7 @@ fn close(text: &[u8], end: usize, long: bool) -> Cursor
 
 // ---- lines
 
+#[tactic(auto, using(crate::proofs::Auto::within_steps))]
 fn op_line(text: &[u8]) -> OpLine
     ensures { result ≡ op_line_of text.now }
 {
@@ -323,6 +324,7 @@ fn no_poly(cursor: Cursor) -> PolyLine
 }
 
 // Coefficients. Over 32 of them count only at the end, since what is bad comes first.
+#[tactic(auto, using(crate::proofs::Auto::within_steps))]
 fn poly_line(text: &[u8], c: Cursor, key: &[u8], wanted: bool) -> PolyLine
     requires { (c.at ≤ length text.now) × (length text.now ≤ longest) }
     ensures { result ≡ poly_line_of text.now c key.now wanted }
@@ -361,6 +363,7 @@ fn no_ratio(cursor: Cursor) -> RatioLine
     }
 }
 
+#[tactic(auto, using(crate::proofs::Auto::within_steps))]
 fn ratio_line(text: &[u8], c: Cursor, key: &[u8], wanted: bool) -> RatioLine
     requires { c.at ≤ length text.now }
     ensures { result ≡ ratio_line_of text.now c key.now wanted }
@@ -392,6 +395,7 @@ fn no_budget(cursor: Cursor) -> BudgetLine
     }
 }
 
+#[tactic(auto, using(crate::proofs::Auto::within_steps))]
 fn budget_line(text: &[u8], c: Cursor, key: &[u8], wanted: bool) -> BudgetLine
     requires { c.at ≤ length text.now }
     ensures { result ≡ budget_line_of text.now c key.now wanted }
@@ -409,11 +413,11 @@ fn budget_line(text: &[u8], c: Cursor, key: &[u8], wanted: bool) -> BudgetLine
     let at = v.at;
     let end = tokens::part_end(text, at, 10);
     match reading::read_budget(&text[at..end]) {
-        Number::Is(budget) => BudgetLine {
+        Some(budget) => BudgetLine {
             cursor: close(text, end, v.long),
             budget,
         },
-        Number::Nothing => no_budget(stopped(at)),
+        None => no_budget(stopped(at)),
     }
 }
 
@@ -434,16 +438,12 @@ fn is_limited(tolerance: bool, x: f64) -> bool
     }
 }
 
-fn limited(tolerance: bool, r: Real) -> Real
+fn limited(tolerance: bool, r: Option<f64>) -> Option<f64>
     ensures { result ≡ limited_of tolerance r }
 {
     match r {
-        Real::Is(x) => if is_limited(tolerance, x) {
-            r
-        } else {
-            Real::Nothing
-        },
-        Real::Nothing => Real::Nothing,
+        Some(x) => if is_limited(tolerance, x) { r } else { None },
+        None => None,
     }
 }
 
@@ -453,6 +453,7 @@ fn no_float(cursor: Cursor) -> FloatLine
     FloatLine { cursor, float: 0.0 }
 }
 
+#[tactic(auto, using(crate::proofs::Auto::within_steps))]
 fn float_line(text: &[u8], c: Cursor, key: &[u8], wanted: bool, tolerance: bool) -> FloatLine
     requires { c.at ≤ length text.now }
     ensures { result ≡ float_line_of text.now c key.now wanted tolerance }
@@ -467,11 +468,11 @@ fn float_line(text: &[u8], c: Cursor, key: &[u8], wanted: bool, tolerance: bool)
     let at = v.at;
     let end = tokens::part_end(text, at, 10);
     match limited(tolerance, reading::read_float(&text[at..end])) {
-        Real::Is(float) => FloatLine {
+        Some(float) => FloatLine {
             cursor: close(text, end, v.long),
             float,
         },
-        Real::Nothing => no_float(stopped(at)),
+        None => no_float(stopped(at)),
     }
 }
 

@@ -7,3 +7,4 @@ pub mod MeaningParts
 pub mod MeaningPeel
 pub mod MeaningSplit
 pub mod MeaningAll
+pub mod Auto

@@ -34,6 +34,7 @@ struct Pair {
 }
 
 // p found as often as `times` says, where there is a place left for it; of a constant nothing.
+#[tactic(auto, using(crate::proofs::Auto::add_steps))]
 fn add(found: Decomposition, p: Poly, times: u64) -> Decomposition
     requires { Kept found × Padded p }
     ensures { result ≡ found_all (added_unless (terms_of p) times (pieces_of found)) }
@@ -89,6 +90,7 @@ fn stopped(why: Reason) -> Left
 
 // What dividing out x less r comes to: that line and the quotient, where no rest is left.
 // The list of factors stays in the loop, so that no root copies it.
+#[tactic(auto, using(crate::proofs::Auto::peel_one_steps))]
 fn peel_one(f: Poly, r: Ratio) -> Pair
     ensures { PeelsOff r (terms_of f) result }
 {
@@ -120,9 +122,10 @@ fn peel_one(f: Poly, r: Ratio) -> Pair
 fn count(n: usize) -> usize
     ensures { (l : List Ratio) → length l ≡ 32 → result ≡ length (take n l) }
 {
-    if n < 32 { n } else { 32 }
+    n.min(32)
 }
 
+#[tactic(auto, using(crate::proofs::Auto::peel_steps))]
 fn peel(found: Decomposition, f: Poly, roots: Roots, times: u64) -> Left
     requires { Kept found × Padded f }
     ensures { result ≡ left_of (peeled times (roots_in roots) (start (pieces_of found) (terms_of f))) }
@@ -130,15 +133,13 @@ fn peel(found: Decomposition, f: Poly, roots: Roots, times: u64) -> Left
     let n = count(roots.len);
     let mut now = found;
     let mut rest = f;
-    let mut i: usize = 0;
-    while i < n {
+    for i in 0..n {
         let r = roots.values[i];
         let p = peel_one(rest, r);
         let o = p.outcome;
         if let Err(why) = o {
             return stopped(why);
         }
-        i += 1;
         if !p.two {
             continue;
         }
@@ -157,6 +158,7 @@ fn peel(found: Decomposition, f: Poly, roots: Roots, times: u64) -> Left
 // ---- Kronecker's method
 
 // The factor g and what it leaves of f, where that is of degree 1 or more.
+#[tactic(auto, using(crate::proofs::Auto::divide_by_steps))]
 fn divide_by(f: Poly, g: Poly) -> Pair
     requires { Padded g }
     ensures { (pair_from result ≡ paired_by (terms_of f) (terms_of g)) × PaddedPair result }
@@ -183,6 +185,7 @@ fn divide_by(f: Poly, g: Poly) -> Pair
 }
 
 // Kronecker's method, for degrees 3 to 6.
+#[tactic(auto, using(crate::proofs::Auto::halve_steps))]
 fn halve(f: Poly, budget: u64) -> Pair
     ensures { (pair_from result ≡ pair_of (terms_of f) budget) × PaddedPair result }
 {
@@ -249,17 +252,15 @@ fn split(found: Decomposition, f: Poly, times: u64, budget: u64) -> Decompositio
 }
 
 // Every factor of a decomposition is split; the multiplicities are kept. A linear one is laid in place, so that the list isn't copied for it.
+#[tactic(auto, using(crate::proofs::Auto::all_steps))]
 pub fn split_all(d: Decomposition, budget: u64) -> Decomposition
     ensures is { result ≡ decomposition_of (split_all (pieces_of d) budget []) }
 {
     let n = size(d.len);
     let mut found = yun::nothing();
-    let mut i: usize = 0;
-    while i < n {
+    for i in 0..n {
         let piece = d.pieces[i];
-        let p = piece.poly;
-        let q = p.normalise();
-        i += 1;
+        let q = piece.poly.normalise();
         if q.length() != 2 {
             let next = split(found, q, piece.times, budget);
             let o = next.outcome;
@@ -286,5 +287,5 @@ pub fn split_all(d: Decomposition, budget: u64) -> Decomposition
 fn size(n: usize) -> usize
     ensures { (l : List Piece) → length l ≡ 32 → result ≡ length (take n l) }
 {
-    if n < 32 { n } else { 32 }
+    n.min(32)
 }

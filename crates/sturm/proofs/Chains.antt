@@ -1,5 +1,7 @@
 -- The promise of the chain at the door.
 use mathlib.Core.Path.{◌≡◌, refl, sym, ap, subst}
+use mathlib.Core.Logic.{inl, inr}
+use denote.Enum.Declared.{tag_of}
 use mathlib.Core.List.{List, [], ◌∷◌, ◌++◌, map}
 use Prim.Native.Nat.{ℕ, zero, suc, ◌-◌, ◌≤◌}
 use native.Mathlib.Omega.{arith}
@@ -9,7 +11,10 @@ use Rattle.ratio.specs.declared.Reason.{Reason}
 use Rattle.terms.specs.declared.Poly.{Poly}
 use Rattle.terms.specs.Meaning.{rats}
 use Rattle.terms.specs.Poly.{terms_of, poly_of}
-use Rattle.poly.specs.declared.Gate.TheVariants.{Open}
+use Rattle.poly.specs.declared.Gate.{Gate}
+use Rattle.poly.specs.declared.Gate.TheVariants.{Open, Long, Bad}
+use Rattle.poly.specs.contracts.Gate as G
+use Rattle.poly.proofs.Doors.{Shut}
 use Rattle.poly.specs.Door.{door_of}
 use Rattle.poly.specs.Promise.{reading}
 use Rattle.poly.proofs.Canonical.{Opened, opened, open-poly, open-nil}
@@ -24,6 +29,12 @@ use Rattle.chain.proofs.MeaningChain.{Each, sequence-means}
 use Rattle.chain.proofs.Refusals.{Overflows, sequence-over}
 use Rattle.sturm.specs.Count.{sequence_for}
 use Rattle.sturm.specs.Promise.{ChainPromise}
+
+-- a door that isn't open is one of the others
+pub shut-from : (d : Gate) → (tag_of G.the_type d ≡ 0 → ⊥) → Shut d
+shut-from Open h = absurd (h refl)
+shut-from Long h = inl refl
+shut-from Bad h = inr refl
 
 zeros-open : (k i : ℕ) → door_of (get_or (replicate k (poly_of [])) i (poly_of [])) ≡ Open
 zeros-open zero zero = open-nil

@@ -1,8 +1,7 @@
 -- The ends and the count: each way it can go.
 use Rattle.ratio.specs.Refusal.{no_refusal}
-use Rattle.std.specs.Prelude.{Ok, Err}
-use mathlib.Core.Path.{◌≡◌, sym, ap, ap₂}
-use mathlib.Core.Bool.{Bool, true, false, ◌&&◌}
+use Rattle.std.specs.Prelude.{Err}
+use mathlib.Core.Path.{◌≡◌}
 use mathlib.Core.List.{List}
 use Prim.Native.Nat.{ℕ, ◌-◌}
 use lib.Ieee.{Float}
@@ -12,8 +11,6 @@ use Rattle.terms.specs.declared.Answer.{Answer}
 use Rattle.terms.specs.Machine.{plain}
 use Rattle.terms.specs.Poly.{terms_of}
 use Rattle.terms.specs.Answer.{answer_of}
-use Rattle.poly.specs.declared.Gate.TheVariants.{Bad}
-use Rattle.poly.specs.Door.{open_if}
 use Rattle.remainders.specs.Gcd.{square_free}
 use Rattle.yun.proofs.CodeGot.{list-got, list-none}
 use Rattle.chain.specs.declared.Chain.{Chain}
@@ -23,13 +20,7 @@ use Rattle.chain.proofs.CodeChain.{chain-got, chain-none}
 use Rattle.sturm.specs.declared.Count.{Count}
 use Rattle.sturm.specs.Changes.{changes}
 use Rattle.sturm.specs.Along.{rows_of, signs_at}
-use Rattle.sturm.specs.Count.{inside, ends_of, no_count, count_of, count_from}
-
-pub ends-left : (lo hi : Float) → inside lo ≡ false → Bad ≡ ends_of lo hi
-ends-left lo hi h = ap (λ (b : Bool). open_if (b && inside hi)) (sym h)
-
-pub ends-right : (lo hi : Float) (t : Bool) → inside lo ≡ true → inside hi ≡ t → open_if t ≡ ends_of lo hi
-ends-right lo hi t h k = ap₂ (λ (a b : Bool). open_if (a && b)) (sym h) (sym k)
+use Rattle.sturm.specs.Count.{no_count, count_of, count_from}
 
 module _ (p : List Ratio) (lo hi : Float) (f : Answer) (e : f ≡ answer_of (square_free plain p 0)) where
   pub free-refused : (why : Reason) → f.outcome ≡ Err why → no_count why ≡ count_of (count_from p lo hi)

@@ -5,8 +5,8 @@ use Prim.Native.Nat.{ℕ, zero, suc, ◌+◌, ◌-◌, ◌*◌, ◌<◌, ◌≤�
 use native.Mathlib.Numerals.{add-one}
 use native.Mathlib.Omega.{arith}
 use lib.Ieee.{Float, binary64, of_bits}
-use lib.ListN.{length, take, drop, get_or, set, replicate, length-append, length-map, length-drop, length-replicate, drop_of_length-le}
-use lib.Seq.{paste, paste-suc, take_all, take_at, take-suc, take-append_seam, drop-append_seam, drop-append-add, drop-drop, length-take-le, append_snoc, set_at}
+use lib.ListN.{length, take, drop, get_or, set, replicate, length-append, length-map, length-replicate}
+use lib.Seq.{paste, paste-suc, take_all, take_at, take-suc, take-append_seam, drop-append_seam, drop-append-add, length-take-le, append_snoc, set_at}
 use Rattle.ratio.specs.declared.Ratio.{Ratio}
 use Rattle.terms.specs.declared.Poly.{Poly}
 use Rattle.terms.specs.Poly.{terms_of, trim}
@@ -19,19 +19,6 @@ use Rattle.sturm.specs.declared.Rows.{Rows}
 use Rattle.sturm.specs.Value.{floats_of}
 use Rattle.sturm.specs.Along.{rows_of}
 use Rattle.sturm.specs.Rows.{row_of, joined, holding, rows_in}
-
--- ---- where a row ends
-
-module _ (at n all : ℕ) where
-  pub until-row : (l : List Float) → (take (at + n - at) (drop at l) ≡ take n (drop at l)) × (drop (at + n) l ≡ drop n (drop at l))
-  until-row l = let e : at + n - at ≡ n = omega arith in (ap (λ (k : ℕ). take k (drop at l)) e, sym (drop-drop n at l))
-
-  pub until_end : at ≤ all → all - at ≤ n → (l : List Float) → length l ≡ all → (take (all - at) (drop at l) ≡ take n (drop at l)) × (drop all l ≡ drop n (drop at l))
-  until_end h k l e =
-      let d : length (drop at l) ≡ all - at = length-drop at l ∙ ap (λ (m : ℕ). m - at) e in
-      let f : length l ≤ all = omega (arith, e) in
-      let g : length (drop at l) ≤ n = omega (arith, d) in
-      (take_all (all - at) (drop at l) (omega (arith, d)) ∙ sym (take_all n (drop at l) g), drop_of_length-le l f ∙ sym (drop_of_length-le (drop at l) g))
 
 -- ---- the floats of a polynomial
 
@@ -194,9 +181,3 @@ rows-lent r rows e =
     ap (λ (x : Rows). rows_in x.values (take x.len x.sizes)) e
     ∙ ap (λ (x : List ℕ). rows_in (holding rows).values x) (take_at (map length rows) (replicate (32 - length rows) 0) (length rows) (length-map rows length))
     ∙ rows_back rows (replicate (1024 - length (joined rows)) (of_bits binary64 0))
-
-pub rows_fit : (r : Rows) (rows : List (List Float)) → r ≡ holding rows → r.len ≤ length r.sizes
-rows_fit r rows e =
-    let n : r.len ≡ length rows = ap (λ (x : Rows). x.len) e in
-    let m : length r.sizes ≡ length rows + (32 - length rows) = ap (λ (x : Rows). length x.sizes) e ∙ length-append (map length rows) (replicate (32 - length rows) 0) ∙ ap₂ ◌+◌ (length-map rows length) (length-replicate (32 - length rows) 0) in
-    omega (arith, n, m)

@@ -1,6 +1,6 @@
 -- Document 01, module 6 and "order": the count of real roots. Ends that are not within ±1e15 are 5, before a length over 32 (4); then the square-free part, the chain, and the changes at the left end less those at the right, at least 0.
 use Rattle.ratio.specs.Refusal.{no_refusal}
-use Rattle.std.specs.Prelude.{Bool, ◌&&◌, List, ℕ, ◌-◌, Float, Ok, Err}
+use Rattle.std.specs.Prelude.{Bool, ◌&&◌, List, ℕ, ◌-◌, Float, Err}
 use Rattle.std.specs.Float.{binary64}
 use Rattle.std.specs.Float.Ieee.{of_bits, neg, le}
 use Rattle.ratio.specs.declared.Ratio.{Ratio}

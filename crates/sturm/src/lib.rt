@@ -29,6 +29,7 @@ pub enum Sign {
 }
 
 // A polynomial's coefficients as floats.
+// A fixed array with a length beside it: the project allows no heap.
 #[derive(Clone, Copy)]
 pub struct Row {
     pub values: [f64; 32],
@@ -59,11 +60,9 @@ fn lay(p: Poly, out: &mut [f64], at: usize) -> usize
     ensures out_after { out.new ≡ paste out.old at (floats_of (terms_of p)) (length (floats_of (terms_of p))) }
 {
     let n = p.top();
-    let mut i: usize = 0;
-    while i < n {
+    for i in 0..n {
         let c = p.coeffs[i];
         out[at + i] = bridge::plain_to_f64(c);
-        i += 1;
     }
     at + n
 }
@@ -85,13 +84,11 @@ pub fn chain_floats(c: Chain) -> Rows
     let mut values = [0.0; 1024];
     let mut sizes: [usize; 32] = [0; 32];
     let mut at: usize = 0;
-    let mut i: usize = 0;
-    while i < n {
+    for i in 0..n {
         let p = c.polys[i];
         let next = lay(p, &mut values, at);
         sizes[i] = next - at;
         at = next;
-        i += 1;
     }
     Rows {
         values,
@@ -108,11 +105,9 @@ pub fn eval_f64(row: &[f64], x: f64) -> f64
     if n == 0 {
         return 0.0;
     }
-    let mut i = n - 1;
-    let mut acc = row[i];
-    while i > 0 {
-        i -= 1;
-        acc = acc * x + row[i];
+    let mut acc = row[n - 1];
+    for i in 1..n {
+        acc = acc * x + row[n - i - 1];
     }
     acc
 }
@@ -176,7 +171,7 @@ fn differ(last: Sign, s: Sign) -> usize
 fn size(n: usize) -> usize
     ensures { (l : List Poly) → length l ≡ 32 → result ≡ length (take n l) }
 {
-    if n < 32 { n } else { 32 }
+    n.min(32)
 }
 
 // Where a row of n floats that begins at `at` ends, among all of them.
@@ -191,18 +186,15 @@ fn until(at: usize, n: usize, all: usize) -> usize
 pub fn sign_changes(values: &[f64], sizes: &[usize], x: f64) -> usize
     ensures is { result ≡ changes (signs_at (rows_in values.now sizes.now) x) }
 {
-    let n = sizes.len();
     let mut last = Sign::Zero;
     let mut count: usize = 0;
     let mut at: usize = 0;
-    let mut i: usize = 0;
-    while i < n {
+    for i in 0..sizes.len() {
         let to = until(at, sizes[i], values.len());
         let s = sign_of(eval_f64(&values[at..to], x));
         count += differ(last, s);
         last = newer(last, s);
         at = to;
-        i += 1;
     }
     count
 }

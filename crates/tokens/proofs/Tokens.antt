@@ -1,4 +1,5 @@
 -- A word's token, by its length and its first byte.
+use Rattle.std.specs.Prelude.{None}
 use mathlib.Core.Path.{◌≡◌, refl}
 use mathlib.Core.List.{List, [], ◌∷◌}
 use Prim.Native.Nat.{ℕ, ◌-◌, ◌<◌, ◌≤◌}
@@ -6,7 +7,6 @@ use native.Mathlib.Omega.{arith}
 use borrow.Author.Tests.{lt-ltb, le-ltb, eq-eqb, ne_eqb}
 use lib.ListN.{length, take, drop, get_or, length-drop}
 use lib.Seq.{take_all}
-use Rattle.tokens.specs.declared.Number.TheVariants.{Nothing}
 use Rattle.tokens.specs.declared.Token.TheVariants.{Malformed}
 use Rattle.tokens.specs.Spelling.{number_of, bits_of, const_of, pow_of, natural_of, var_of, mark_of, token_of}
 
@@ -49,13 +49,13 @@ token-else [] h e f g = absurd (omega arith)
 token-else (b ∷ []) h e f g = absurd (omega arith)
 token-else (b ∷ d ∷ l) h e f g = rw (ne_eqb b 99 e, ne_eqb b 94 f, ne_eqb b 118 g)
 
-pub natural-long : (l : List ℕ) → 19 < length l → Nothing ≡ natural_of l
+pub natural-long : (l : List ℕ) → 19 < length l → None ≡ natural_of l
 unfolding natural_of
 natural-long [] h = refl
 natural-long (a ∷ []) h = absurd (omega arith)
 natural-long (a ∷ b ∷ l) h = rw (lt-ltb 17 (length l) (omega arith))
 
-pub natural-none : (l : List ℕ) → length l ≡ 0 → Nothing ≡ natural_of l
+pub natural-none : (l : List ℕ) → length l ≡ 0 → None ≡ natural_of l
 unfolding natural_of
 natural-none [] h = refl
 natural-none (a ∷ l) h = absurd (omega arith)
@@ -66,7 +66,7 @@ natural-one [] h = absurd (omega arith)
 natural-one (a ∷ []) h = refl
 natural-one (a ∷ b ∷ l) h = absurd (omega arith)
 
-pub natural-zero : (l : List ℕ) → 1 < length l → get_or l 0 0 ≡ 48 → length l ≤ 19 → Nothing ≡ natural_of l
+pub natural-zero : (l : List ℕ) → 1 < length l → get_or l 0 0 ≡ 48 → length l ≤ 19 → None ≡ natural_of l
 unfolding natural_of
 natural-zero [] h e k = absurd (omega arith)
 natural-zero (a ∷ []) h e k = absurd (omega arith)

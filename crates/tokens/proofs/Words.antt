@@ -2,11 +2,11 @@
 use mathlib.Core.Path.{◌≡◌, refl}
 use mathlib.Core.Bool.{Bool, true, false, cond}
 use mathlib.Core.List.{List, [], ◌∷◌}
-use Prim.Native.Nat.{ℕ, zero, suc, ◌+◌, ◌<◌, ◌≤◌}
+use Prim.Native.Nat.{ℕ, zero, suc, max, ◌+◌, ◌<◌, ◌≤◌}
 use native.Mathlib.Omega.{arith}
 use native.Mathlib.Numerals.{add-one}
-use borrow.Author.Tests.{eq-eqb, ne_eqb}
-use lib.Dec.{eqb}
+use borrow.Author.Tests.{eq-eqb, ne_eqb, ltb-true, ltb-false}
+use lib.Dec.{eqb, ltb}
 use lib.ListN.{length, take, drop, get_or, drop_of_length-le}
 use lib.Seq.{drop-cons}
 use Rattle.tokens.specs.Words.{on_first, parts_of, length_to}
@@ -47,3 +47,12 @@ pub length-bounded : (mark : ℕ) (l : List ℕ) → length_to mark l ≤ length
 unfolding length_to
 length-bounded mark [] = omega arith
 length-bounded mark (b ∷ l) = bounded (eqb b mark) (length_to mark l) (length l) (length-bounded mark l)
+
+-- no mark up to the text's end
+module _ (mark at end m : ℕ) (s : List ℕ) (e : m ≡ max at (length s)) (f : at ≤ length s → end ≤ length s) (h : length s ≤ end) (w : end + length_to mark (drop end s) ≡ at + length_to mark (drop at s)) where
+  all-by : (t : Bool) → ltb (length s) at ≡ t → m ≡ at + length_to mark (drop at s)
+  all-by true q = omega (arith, e, ltb-true (length s) at q, length_none mark s at (omega (arith, ltb-true (length s) at q)))
+  all-by false q = omega (arith, e, f (ltb-false (length s) at q), ltb-false (length s) at q, length_none mark s end h, w)
+
+  pub length-all : m ≡ at + length_to mark (drop at s)
+  length-all = all-by (ltb (length s) at) refl

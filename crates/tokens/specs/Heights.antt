@@ -1,5 +1,5 @@
 -- Document 01, module 7 and "order": 5 for the first bad token in the text's order, then 4 for over 16 values before any `?`.
-use Rattle.std.specs.Prelude.{Bool, true, false, cond, List, [], ◌∷◌, ℕ, ◌+◌, ◌-◌, ltb, eqb, length, Ok, Err}
+use Rattle.std.specs.Prelude.{Bool, true, false, cond, List, [], ◌∷◌, ℕ, ◌+◌, ◌-◌, ltb, eqb, length, Err}
 use Rattle.ratio.specs.Refusal.{Outcome, no_refusal}
 use Rattle.ratio.specs.declared.Reason.TheVariants as R
 use Rattle.tokens.specs.declared.Height.{Height}

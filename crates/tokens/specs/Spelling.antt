@@ -1,9 +1,7 @@
 -- Document 01, module 7: how a token is spelled: `c` and 16 hex digits, `v` and 0 to 255, `+`, `-`, `*`, `~`, `^` and 16 hex digits, `?`.
-use Rattle.std.specs.Prelude.{cond, List, [], ◌∷◌, ℕ, ◌+◌, ◌*◌, ◌-◌, ltb, eqb, length}
+use Rattle.std.specs.Prelude.{cond, List, [], ◌∷◌, ℕ, ◌+◌, ◌*◌, ◌-◌, ltb, eqb, length, Option, Some, None}
 use Rattle.std.specs.Float.{binary64}
 use Rattle.std.specs.Float.Ieee.{of_bits}
-use Rattle.tokens.specs.declared.Number.{Number}
-use Rattle.tokens.specs.declared.Number.TheVariants.{Is, Nothing}
 use Rattle.tokens.specs.declared.Token.{Token}
 use Rattle.tokens.specs.declared.Token.TheVariants.{Const, Var, Add, Sub, Mul, Neg, Pow, Other, Malformed}
 
@@ -16,30 +14,30 @@ digit_of b =
     (cond (ltb b 103) (b - 87) 16)))
 
 -- the number that these digits spell, after those that came to n
-unfoldable pub number_of : ℕ → ℕ → List ℕ → Number
-number_of base n [] = Is n
-number_of base n (b ∷ l) = cond (ltb (digit_of b) base) (number_of base (n * base + digit_of b) l) Nothing
+unfoldable pub number_of : ℕ → ℕ → List ℕ → Option ℕ
+number_of base n [] = Some n
+number_of base n (b ∷ l) = cond (ltb (digit_of b) base) (number_of base (n * base + digit_of b) l) None
 
-unfoldable pub bits_of : List ℕ → Number
-bits_of l = cond (eqb (length l) 16) (number_of 16 0 l) Nothing
+unfoldable pub bits_of : List ℕ → Option ℕ
+bits_of l = cond (eqb (length l) 16) (number_of 16 0 l) None
 
-abbrev pub const_of : Number → Token
-const_of (Is n) = Const (of_bits binary64 n)
-const_of Nothing = Malformed
+abbrev pub const_of : Option ℕ → Token
+const_of (Some n) = Const (of_bits binary64 n)
+const_of None = Malformed
 
-abbrev pub pow_of : Number → Token
-pow_of (Is n) = Pow (of_bits binary64 n)
-pow_of Nothing = Malformed
+abbrev pub pow_of : Option ℕ → Token
+pow_of (Some n) = Pow (of_bits binary64 n)
+pow_of None = Malformed
 
-abbrev pub index_of : Number → Token
-index_of (Is n) = cond (ltb 255 n) Malformed (Var n)
-index_of Nothing = Malformed
+abbrev pub index_of : Option ℕ → Token
+index_of (Some n) = cond (ltb 255 n) Malformed (Var n)
+index_of None = Malformed
 
 -- a number of at most 19 digits, without leading zeros
-unfoldable pub natural_of : List ℕ → Number
-natural_of [] = Nothing
+unfoldable pub natural_of : List ℕ → Option ℕ
+natural_of [] = None
 natural_of (a ∷ []) = number_of 10 0 (a ∷ [])
-natural_of (a ∷ b ∷ l) = cond (ltb 17 (length l)) Nothing (cond (eqb a 48) Nothing (number_of 10 0 (a ∷ b ∷ l)))
+natural_of (a ∷ b ∷ l) = cond (ltb 17 (length l)) None (cond (eqb a 48) None (number_of 10 0 (a ∷ b ∷ l)))
 
 -- 0 to 255
 unfoldable pub var_of : List ℕ → Token

@@ -24,13 +24,6 @@ pub enum Token {
     Malformed,
 }
 
-// A number that is spelled by digits.
-#[derive(Clone, Copy)]
-pub enum Number {
-    Is(u64),
-    Nothing,
-}
-
 // How many values stand on the stack, whether over 16 ever did, and whether a `?` was passed.
 #[derive(Clone, Copy)]
 pub struct Height {
@@ -42,6 +35,7 @@ pub struct Height {
 // ---- spelling
 
 // The value of a digit, lower case; 16 for any other byte.
+#[tactic(auto, unfolding(crate::specs::Spelling::digit_of))]
 fn digit(b: u8) -> u64
     ensures { result ≡ digit_of b }
 {
@@ -58,32 +52,31 @@ fn digit(b: u8) -> u64
     }
 }
 
-// The number that digits spell, as many as always fit.
-fn spelled(digits: &[u8], base: u64) -> Number
+// The number that digits spell, as many as always fit; none where one of them is no digit.
+fn spelled(digits: &[u8], base: u64) -> Option<u64>
     requires { base ^ length digits.now ≤ 18446744073709551616 }
     ensures { result ≡ number_of base 0 digits.now }
 {
     let mut n: u64 = 0;
-    let mut i: usize = 0;
-    while i < digits.len() {
+    for i in 0..digits.len() {
         let d = digit(digits[i]);
         if d >= base {
-            return Number::Nothing;
+            return None;
         }
         n = n * base + d;
-        i += 1;
     }
-    Number::Is(n)
+    Some(n)
 }
 
 // The bits that 16 digits spell.
-pub fn bits(digits: &[u8]) -> Number
+#[tactic(auto, unfolding(crate::specs::Spelling::bits_of))]
+pub fn bits(digits: &[u8]) -> Option<u64>
     ensures is { result ≡ bits_of digits.now }
 {
     if digits.len() == 16 {
         spelled(digits, 16)
     } else {
-        Number::Nothing
+        None
     }
 }
 
@@ -102,8 +95,8 @@ fn constant(digits: &[u8]) -> Token
     ensures { result ≡ const_of (bits_of digits.now) }
 {
     match bits(digits) {
-        Number::Is(n) => Token::Const(float(n)),
-        Number::Nothing => Token::Malformed,
+        Some(n) => Token::Const(float(n)),
+        None => Token::Malformed,
     }
 }
 
@@ -111,49 +104,51 @@ fn power(digits: &[u8]) -> Token
     ensures { result ≡ pow_of (bits_of digits.now) }
 {
     match bits(digits) {
-        Number::Is(n) => Token::Pow(float(n)),
-        Number::Nothing => Token::Malformed,
+        Some(n) => Token::Pow(float(n)),
+        None => Token::Malformed,
     }
 }
 
 // A number of at most 19 digits, which always fits, without leading zeros.
-pub fn natural(digits: &[u8]) -> Number
+pub fn natural(digits: &[u8]) -> Option<u64>
     ensures is { result ≡ natural_of digits.now }
 {
     if digits.len() > 19 {
-        Number::Nothing
+        None
     } else if digits.len() == 0 {
-        Number::Nothing
+        None
     } else if digits.len() == 1 {
         spelled(digits, 10)
     } else if digits[0] == 48 {
-        Number::Nothing
+        None
     } else {
         spelled(digits, 10)
     }
 }
 
 // 0 to 255, without leading zeros.
+#[tactic(auto, unfolding(crate::specs::Spelling::var_of))]
 fn variable(digits: &[u8]) -> Token
     ensures { result ≡ var_of digits.now }
 {
     index(natural(digits))
 }
 
-fn index(n: Number) -> Token
+fn index(n: Option<u64>) -> Token
     ensures { result ≡ index_of n }
 {
     match n {
-        Number::Is(i) => if i > 255 {
+        Some(i) => if i > 255 {
             Token::Malformed
         } else {
             Token::Var(i)
         },
-        Number::Nothing => Token::Malformed,
+        None => Token::Malformed,
     }
 }
 
 // A token of one byte.
+#[tactic(auto, unfolding(crate::specs::Spelling::mark_of))]
 fn mark(b: u8) -> Token
     ensures { result ≡ mark_of b }
 {
@@ -197,14 +192,12 @@ pub fn token_of(word: &[u8]) -> Token
 pub fn part_end(text: &[u8], at: usize, mark: u8) -> usize
     ensures is { result ≡ at + length_to mark (drop at text.now) }
 {
-    let mut end = at;
-    while end < text.len() {
+    for end in at..text.len() {
         if text[end] == mark {
             return end;
         }
-        end += 1;
     }
-    end
+    at.max(text.len())
 }
 
 // Where a word ends: at a space or at the text's end.

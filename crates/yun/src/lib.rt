@@ -21,6 +21,7 @@ pub struct Piece {
 }
 
 // The factors, or why there are none.
+// A fixed array with a length beside it: the project allows no heap.
 #[derive(Clone, Copy)]
 pub struct Decomposition {
     pub outcome: Result<(), Reason>,

@@ -1,11 +1,8 @@
 -- `reading::top` meets its contract.
-use mathlib.Core.Path.{◌≡◌, ap, ◌∙◌}
-use mathlib.Core.Bool.{true, false}
-use Rattle.ratio.specs.Step.{is_nil}
+use mathlib.Core.Path.{ap, ◌∙◌}
 use Rattle.ratio.proofs.Words.{nil-bits, some_bits}
 use Rattle.terms.specs.Answer.{done_with}
 use Rattle.reading.proofs.Hold.{top-alone, top-zero, top-long, top-done}
-use borrow.Author.Rules.{rules}
 use Rattle.reading.proofs.top.Goals as goal
 
 pub returns-then-n-eq0 : goal.returns-then-n-eq0

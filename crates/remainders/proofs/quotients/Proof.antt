@@ -1,5 +1,4 @@
 -- `remainders::quotients` meets its contract. The loop's invariant: what is left of the terms gives the whole division.
-use Rattle.std.specs.Prelude.{Ok}
 use mathlib.Core.Path.{◌≡◌, refl, sym, ap, ap₂, ◌∙◌}
 use mathlib.Core.List.{List}
 use Prim.Native.Nat.{◌≤◌}

@@ -3,7 +3,6 @@ use mathlib.Core.Path.{◌∙◌}
 use native.Mathlib.Omega.{arith}
 use Rattle.tokens.proofs.Digits.{ten-fits}
 use Rattle.tokens.proofs.Tokens.{natural-long, natural-none, natural-one, natural-zero, natural-more}
-use borrow.Author.Rules.{rules}
 use Rattle.tokens.proofs.natural.Goals as goal
 
 pub spelled-requires : goal.spelled-requires
