@@ -1,5 +1,5 @@
 // The engine for programs in other languages. A polynomial comes as a list of numerators and one of denominators, an operation by its number.
-// The numbers are those of include/kanrosuye.h and not an enum, since C may hand over any number.
+// The numbers are those of specs/Call.antt and not an enum, since a program in C may hand over any number.
 // An answer is written to lent memory, 32 numerators and 32 denominators a polynomial; a refusal writes nothing.
 #![tactic(auto)]
 

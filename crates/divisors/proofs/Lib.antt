@@ -9,3 +9,4 @@ pub mod Factors
 pub mod Small
 pub mod Once
 pub mod Lists
+pub mod Listed

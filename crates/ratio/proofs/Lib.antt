@@ -4,6 +4,7 @@ pub mod Binary
 pub mod Fractions
 pub mod Auto
 pub mod Models
+pub mod Short
 pub mod Quotient
 pub mod Lowest
 pub mod Answers

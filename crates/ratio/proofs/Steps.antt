@@ -22,7 +22,7 @@ use Rattle.ratio.specs.Refusal.{status_of, ratio_of, zero_r}
 use Rattle.ratio.specs.Step.{is_nil, reduced, lowest, new_of, add_of, sub_of, mul_of, neg_of, inv_of, cmp_of}
 use Rattle.ratio.specs.Promise.{rat, Fraction, Lowest, AddFits, SubFits, MulFits, InvFits, Answers}
 use Rattle.ratio.specs.declared.Ratio.{Ratio}
-use Rattle.ratio.specs.declared.Reason.TheVariants.{CoeffOverflow}
+use Rattle.ratio.specs.declared.Reason.TheVariants.{CoeffOverflow, DivByZero}
 use Rattle.ratio.proofs.Fractions.{fraction-is, some-nil, nil-some, no_size, neg-fraction}
 use Rattle.ratio.proofs.Words.{abs_neg}
 use Rattle.ratio.proofs.Lowest.{over-neg}
@@ -70,6 +70,9 @@ module _ (a r : Ratio) where
 
 pub new-done : (n d : ℤ) (r : Ratio) → new_of n d ≡ Ok r → Same (rat r) (over n d) × Lowest r
 new-done n d r e = answer (new_of n d) r (new-answers n d) e
+
+pub new-fits : (n d : ℤ) (r : Ratio) → new_of n d ≡ Ok r → Fraction (record { num = n; den = d })
+new-fits n d r e = (new-answers n d).only (ap status_of e)
 
 -- ---- the same in the field of the rationals
 
@@ -125,6 +128,10 @@ module _ (a : Ratio) (f : Fraction a) where
   pub inv-is : a.num ≢ pos 0 → inv_of a ≡ Ok (lowest a.den a.num)
   inv-is h = sym (inv-yes a (fraction-is a f) (some-nil a.num h))
 
+  pub inv-zero : is_nil a.num ≡ true → inv_of a ≡ Err DivByZero
+  unfolding inv_of
+  inv-zero h = rw (fraction-is a f, h)
+
 pub new_is : (n d : ℤ) → Fraction (record { num = n; den = d }) → new_of n d ≡ Ok (lowest n d)
 new_is n d f = sym (new-yes n d (fraction-is _ f))
 
@@ -149,6 +156,13 @@ lowest-equal a b la lb e =
     ap₂ (λ (n d : ℤ). record { num = n; den = d })
     (sym (den-is a.num a.den la.above).0 ∙ ap (λ (x : Rat). x.num) p ∙ (den-is b.num b.den lb.above).0)
     (sym (den-is a.num a.den la.above).1 ∙ ap (λ (x : Rat). pos x.den) p ∙ (den-is b.num b.den lb.above).1)
+
+-- a fraction in lowest terms is kept as it is
+pub new-lowest : (r : Ratio) → Lowest r → new_of r.num r.den ≡ Ok r
+new-lowest r l =
+    let e = new_is r.num r.den l.fraction in
+    let d = new-done r.num r.den _ e in
+    e ∙ ap Ok (lowest-equal _ r d.1 l d.0)
 
 -- ---- zero and one
 

@@ -2,7 +2,7 @@
 // Every step takes any pair of numbers: what is no fraction within the range is refused with 5.
 #![tactic(auto)]
 
-ghost use Rattle.std.specs.Prelude.{◌≡◌, ◌&&◌, ◌+◌, ◌*◌, ◌-◌, ◌/◌, ◌%◌, ◌^◌, ◌<◌, ◌≤◌, min, pos, nat_abs, ◌+ℤ◌, ◌*ℤ◌};
+ghost use Rattle.std.specs.Prelude.{◌≡◌, ◌&&◌, eqb, ◌+◌, ◌*◌, ◌-◌, ◌/◌, ◌%◌, ◌^◌, ◌<◌, ◌≤◌, min, pos, nat_abs, ◌+ℤ◌, ◌*ℤ◌};
 ghost use Rattle.std.specs.Int.Count.{count_trailing_zeros};
 ghost use Rattle.algebra.specs.Rational.{add_q, sub_q, mul_q, neg_q, over};
 ghost use Rattle.ratio.specs.Refusal.{number_of};
@@ -210,10 +210,19 @@ impl Ratio {
     }
 }
 
-// Every intermediate is tested.
+// Whether each entry is below 2^31 in size: then no product of two leaves the range, nor does a sum of two products.
+#[inline(always)]
+fn narrow(a: Ratio, b: Ratio) -> bool
+    ensures { result ≡ eqb (nat_abs a.num / 2147483648 + nat_abs a.den / 2147483648 + nat_abs b.num / 2147483648 + nat_abs b.den / 2147483648) 0 }
+{
+    let high = |x: i64| x.unsigned_abs() / 2147483648;
+    high(a.num) + high(a.den) + high(b.num) + high(b.den) == 0
+}
+
+// Entries of any size: every intermediate is tested.
 #[inline(always)]
 #[tactic(auto, using(crate::proofs::Auto::steps), unfolding(crate::specs::Step::add_of))]
-fn add(a: Ratio, b: Ratio) -> Result<Ratio, Reason>
+fn add_any(a: Ratio, b: Ratio) -> Result<Ratio, Reason>
     ensures { result ≡ add_of a b }
 {
     if !is_fraction(a) || !is_fraction(b) {
@@ -227,8 +236,21 @@ fn add(a: Ratio, b: Ratio) -> Result<Ratio, Reason>
 }
 
 #[inline(always)]
+fn add(a: Ratio, b: Ratio) -> Result<Ratio, Reason>
+    ensures { result ≡ add_of a b }
+{
+    if narrow(a, b) {
+        let d = a.den * b.den;
+        if d != 0 {
+            return Ok(reduce(a.num * b.den + b.num * a.den, d));
+        }
+    }
+    add_any(a, b)
+}
+
+#[inline(always)]
 #[tactic(auto, using(crate::proofs::Auto::steps), unfolding(crate::specs::Step::mul_of))]
-fn mul(a: Ratio, b: Ratio) -> Result<Ratio, Reason>
+fn mul_any(a: Ratio, b: Ratio) -> Result<Ratio, Reason>
     ensures { result ≡ mul_of a b }
 {
     if !is_fraction(a) || !is_fraction(b) {
@@ -237,6 +259,19 @@ fn mul(a: Ratio, b: Ratio) -> Result<Ratio, Reason>
     let n = product(a.num, b.num)?;
     let d = product(a.den, b.den)?;
     Ok(reduce(n, d))
+}
+
+#[inline(always)]
+fn mul(a: Ratio, b: Ratio) -> Result<Ratio, Reason>
+    ensures { result ≡ mul_of a b }
+{
+    if narrow(a, b) {
+        let d = a.den * b.den;
+        if d != 0 {
+            return Ok(reduce(a.num * b.num, d));
+        }
+    }
+    mul_any(a, b)
 }
 
 pub fn checked_add(a: Ratio, b: Ratio) -> Result<Ratio, Reason>
@@ -255,7 +290,7 @@ pub fn checked_sub(a: Ratio, b: Ratio) -> Result<Ratio, Reason>
     let Some(num) = b.num.checked_neg() else {
         return Err(Reason::BadInput);
     };
-    checked_add(a, Ratio { num, den: b.den })
+    add(a, Ratio { num, den: b.den })
 }
 
 pub fn checked_mul(a: Ratio, b: Ratio) -> Result<Ratio, Reason>

@@ -1,4 +1,4 @@
--- What the search costs: a candidate takes at most three steps for each coefficient, and there are at most as many candidates as pairs of the two listings. Err runs cost no more.
+-- What the search costs: a candidate takes at most three steps for each coefficient, and there are at most as many candidates as pairs of the two listings. Refused runs cost no more.
 use Rattle.ratio.specs.declared.Reason.{Reason}
 use Rattle.std.specs.Prelude.{Result, Ok, Err}
 use mathlib.Core.Bool.{Bool, true, false}

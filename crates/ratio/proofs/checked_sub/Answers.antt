@@ -7,14 +7,14 @@ use Rattle.ratio.proofs.Models.{sub-is-add}
 use Rattle.ratio.proofs.Answers.{sub-answers}
 use Rattle.ratio.proofs.checked_sub.Goals as goal
 
-is : (c : goal.After-checked_add) → c.checked_add.result ≡ sub_of c.args.a c.args.b
+is : (c : goal.After-add) → c.add.result ≡ sub_of c.args.a c.args.b
 is c =
     let b = c.args.b in
     let e = c.in-Some.ensures in
     let bn : SFits w64 b.num = search rules in
     let bd : SFits w64 b.den = search rules in
     let n : SFits w64 c.in-Some.num = search rules in
-    c.checked_add.ensures.is
+    c.add.ensures
     ∙ ap (add_of c.args.a) (ap₂ (λ (n d : ℤ). record { num = n; den = d }) (to_z-of_z w64 _ n ∙ e.1 ∙ ap neg_ℤ (to_z-of_z w64 _ bn)) (to_z-of_z w64 _ bd))
     ∙ sub-is-add c.args.a b
 

@@ -1,27 +1,14 @@
-use Rattle.std.proofs.Common.{◌≡◌, true, Ok, ap, ap₂, ◌∙◌, rules}
-use Rattle.ratio.specs.Step.{is_fraction, lowest}
-use Rattle.ratio.proofs.Fractions.{fraction-of, product-fraction, got-mul}
-use Rattle.ratio.proofs.Models.{mul-yes}
+use Rattle.std.proofs.Common.{Ok, ap, ◌∙◌}
+use Rattle.ratio.proofs.Short.{short, mul-fits, mul-fraction, mul-done}
 use Rattle.ratio.proofs.mul.Goals as goal
 
-pub reduce-requires : goal.reduce-requires
-reduce-requires c =
-    let a = c.args.a in
-    let b = c.args.b in
-    let fa = fraction-of a (search rules) in
-    let fb = fraction-of b (search rules) in
-    let n = got-mul a.num b.num _ fa.num-within fb.num-within c.in_ok-n.ensures in
-    let d = got-mul a.den b.den _ fa.den-within fb.den-within c.in_ok-d.ensures in
-    rw (n.read, d.read) (product-fraction a b _ fa fb n.fit d.fit)
+pub overflow_mul-a : goal.overflow_mul-a
+overflow_mul-a c =
+    let s = short c.args.a c.args.b c.if-narrow.ensures in
+    mul-fits c.args.a.num c.args.b.num s.an s.bn
 
-pub returns : goal.returns
-returns c =
-    let a = c.args.a in
-    let b = c.args.b in
-    let ta : is_fraction a ≡ true = search rules in
-    let tb : is_fraction b ≡ true = search rules in
-    let fa = fraction-of a ta in
-    let fb = fraction-of b tb in
-    let n = got-mul a.num b.num _ fa.num-within fb.num-within c.in_ok-n.ensures in
-    let d = got-mul a.den b.den _ fa.den-within fb.den-within c.in_ok-d.ensures in
-    ap Ok (c.reduce.ensures ∙ ap₂ lowest n.read d.read) ∙ mul-yes _ _ ta tb n.test d.test
+pub reduce-requires : goal.reduce-requires
+reduce-requires c = mul-fraction c.args.a c.args.b (short _ _ c.if-narrow.ensures) c.if-d-ne0.true
+
+pub returns-then-d-ne0 : goal.returns-then-d-ne0
+returns-then-d-ne0 c = ap Ok c.reduce.ensures ∙ mul-done c.args.a c.args.b (short _ _ c.if-narrow.ensures) c.if-d-ne0.true
