@@ -105,7 +105,7 @@ pub fn is_finite(v: f64) -> bool
     v.is_finite()
 }
 
-// `x.abs() < 1e-9`, by two tests: they are tried up to 1000 times a float, and `abs` took a third longer.
+// `x.abs() < 1e-9`, by two tests: it is asked up to 1000 times a float, and by `abs` that took half as long again.
 fn is_small(x: f64) -> bool
     ensures { result ≡ small x }
 {

@@ -16,8 +16,7 @@ use poly::Gate;
 use ratio::{Ratio, Reason};
 use terms::Poly;
 
-// How many bytes were written.
-// How many bytes of the lent page are written: the page is the caller's, in C too.
+// How many bytes of the lent page were written, or why none; the page is the caller's, in C too.
 #[derive(Clone, Copy)]
 pub struct Written {
     pub outcome: Result<(), Reason>,

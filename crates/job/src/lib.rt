@@ -18,8 +18,8 @@ use search::Roots;
 use sturm::Count;
 use terms::{Answer, Poly};
 
-// What came of a job: its outcome, with the place of what is malformed, and how many bytes its answer has.
-// How many bytes of the lent page are written: the page is the caller's, in C too.
+// What came of a job: its outcome, with the place of what is malformed, and how many bytes of the lent page its answer takes.
+// The page is the caller's, in C too.
 #[derive(Clone, Copy)]
 pub struct Ran {
     pub outcome: Result<(), Reason>,
