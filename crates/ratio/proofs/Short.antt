@@ -2,21 +2,22 @@
 use Rattle.std.specs.Prelude.{Ok}
 use mathlib.Core.Path.{◌≡◌, refl, sym, ap, ap₂, subst, ◌∙◌}
 use mathlib.Core.Bool.{Bool, true, false, cond}
-use Prim.Native.Nat.{ℕ, suc, ◌+◌, ◌*◌, ◌-◌, ◌/◌, ◌<◌, ◌≤◌}
-use native.Mathlib.Nat.{zero-mul, mul-zero, mul-le-mul}
+use Prim.Native.Nat.{ℕ, suc, ◌+◌, ◌-◌, ◌/◌, ◌<◌, ◌≤◌}
+use native.Mathlib.Nat.{mul-le-mul}
 use native.Mathlib.Omega.{arith}
 use borrow.Author.Tests.{eqb-true, le-leb, ltb-true, ltb-false}
 use lib.Dec.{eqb, ltb}
 use lib.IntN.{ℤ, pos, negsuc, nat_abs, ◌+ℤ◌, ◌*ℤ◌, sub_ℕ}
 use mir.Syntax.{w64}
 use mir.Val.{SFits, to_z, of_z}
-use Rattle.algebra.proofs.Whole.{abs-mul}
+use Rattle.algebra.proofs.Ring.{mul-nil, nil-mul}
+use Rattle.algebra.proofs.Whole.{ℤ-ring, abs-mul}
 use Rattle.ratio.specs.Range.{limit, Within, within}
 use Rattle.ratio.specs.Step.{is_fraction, lowest, add_of, mul_of}
 use Rattle.ratio.specs.Promise.{Fraction}
 use Rattle.ratio.specs.declared.Ratio.{Ratio}
 use Rattle.ratio.proofs.Words.{back, fits}
-use Rattle.ratio.proofs.Fractions.{no_size, fraction-is}
+use Rattle.ratio.proofs.Fractions.{fraction-is}
 use Rattle.ratio.proofs.Models.{add-yes, mul-yes}
 
 pub record Short (a b : Ratio) : Type 0 where
@@ -87,12 +88,6 @@ module _ (a b : Ratio) (h : Short a b) where
   pub sum-read : copy (copy (times a.num b.den) +ℤ copy (times b.num a.den)) ≡ a.num *ℤ b.den +ℤ b.num *ℤ a.den
   sum-read = ap copy sum_is ∙ back (a.num *ℤ b.den +ℤ b.num *ℤ a.den) sum-within
 
-nil-left : (x y : ℤ) → x ≡ pos 0 → x *ℤ y ≡ pos 0
-nil-left x y e = no_size (x *ℤ y) (abs-mul x y ∙ ap (λ (n : ℕ). n * nat_abs y) (ap nat_abs e) ∙ zero-mul (nat_abs y))
-
-nil-right : (x y : ℤ) → y ≡ pos 0 → x *ℤ y ≡ pos 0
-nil-right x y e = no_size (x *ℤ y) (abs-mul x y ∙ ap (λ (n : ℕ). nat_abs x * n) (ap nat_abs e) ∙ mul-zero (nat_abs x))
-
 -- ---- where the product of the denominators isn't zero, both are fractions and the step is answered
 
 module _ (a b : Ratio) (h : Short a b) (some : of_z w64 (times a.den b.den) ≡ 0 → ⊥) where
@@ -100,10 +95,10 @@ module _ (a b : Ratio) (h : Short a b) (some : of_z w64 (times a.den b.den) ≡ 
   den-some e = some (ap (of_z w64) (times-is a.den b.den h.ad h.bd ∙ e))
 
   is-a : is_fraction a ≡ true
-  is-a = fraction-is a (record { num-within = omega (arith, h); den-within = omega (arith, h); den-some = λ e. den-some (nil-left a.den b.den e) })
+  is-a = fraction-is a (record { num-within = omega (arith, h); den-within = omega (arith, h); den-some = λ e. den-some (ap (λ z. z *ℤ b.den) e ∙ nil-mul ℤ-ring b.den) })
 
   is_b : is_fraction b ≡ true
-  is_b = fraction-is b (record { num-within = omega (arith, h); den-within = omega (arith, h); den-some = λ e. den-some (nil-right a.den b.den e) })
+  is_b = fraction-is b (record { num-within = omega (arith, h); den-within = omega (arith, h); den-some = λ e. den-some (ap (λ z. a.den *ℤ z) e ∙ mul-nil ℤ-ring a.den) })
 
   fits-test : (x y : ℤ) → nat_abs x < 2147483648 → nat_abs y < 2147483648 → within (x *ℤ y) ≡ true
   fits-test x y hx hy = le-leb (nat_abs (x *ℤ y)) limit (omega (arith, mul-size x y hx hy))
